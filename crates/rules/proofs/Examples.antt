@@ -1,0 +1,250 @@
+-- Document 01's examples E1 to E11 and `shown`, and readings of rules that E1 to E11 do not reach: one table, proved by computation.
+-- Each row says all that the last call hands back and leaves: number, events, answers taken, stop, count, value, output, record,
+-- lengths, characters and logical end.
+use mathlib.Core.Path.{_≡_, refl}
+use Prim.Native.Nat.{ℕ, zero, suc, _+_, _*_, _-_}
+use Prim.Native.Char.{Char, code}
+use Prim.Native.String as S
+use Prim.Native.String.{String}
+use mathlib.Core.Bool.{Bool, true, false, not, _&&_, _||_}
+use mathlib.Core.List.{List, [], _∷_, _++_}
+use lib.ListN.{length, take, drop, replicate}
+use lib.IntN.{ℤ, pos, negsuc}
+use Rattle.rules.specs.declared.Position.{Position}
+use Rattle.rules.specs.declared.Rights.{Rights}
+use Rattle.rules.specs.declared.Shape.{Shape}
+use Rattle.rules.specs.declared.File.{File}
+use Rattle.rules.specs.declared.Ending.{Ending}
+use Rattle.rules.specs.Book.{within, place, before, pageLength, lineIndex, lineLength, characterIndex, inBounds, nextWord, kindOf, placeOf, mendingOf, answerOf, suggested, wordFits, allWordsFit, rowFits, legal, sizesFit, allUpTo, lengthsFit, someRight, moodsFit, shapeFits, bookFits, allFits}
+use Rattle.rules.specs.Step.{refusal, stopped, finished, _>>=_, pure, halt, attempt, look, change, branch, test, fileEnded, signal, moodOn, backspace, reset, characterHere, size, store, blanks, blankLine, blankLines, cutLine, cutPage, fillLine, fillPage, endLine, endPage}
+use Rattle.rules.specs.Steps.{printable, digit, fitsHere, signals, signalWhile, goodFileBody, goodPageBody, atPageEndBody, goodLineBody, atLineEndBody, newlineBody, newpageBody, setToBody, performBody, answeredBody, characterEvent, putCharacterBody, roomForBody, passBlanksBody, moreDigitsBody, spaceStep, setCharacterNumberBody, body, spent, supply, bounded, execute}
+use Rattle.rules.specs.Steps as Steps
+use Rattle.rules.specs.Whole.{digitsUpTo, signed, padded, wholeText, lowest, Written, whole}
+use Rattle.rules.specs.Calls.{Value, nothing, aCharacter, anInteger, aView, aString, begin, turnable, established, establishing, opening, closing, resetting, backspacing, shown, shownLength, shownPart, orMarker, viewing, viewNumber, putCharacters, puttingString, putText, puttingInteger, takeCharacter, gettingCharacter, oneOf, stringCharacter, getCharacters, gettingString, firstDigit, withSign, integerGiven, gettingInteger, spacing, newlining, newpaging, settingCharacterNumber, setting, Call, plain, asking, establishes, opens, closes, resets, backspaces, views, viewNumbers, putsCharacter, putsString, putsInteger, getsCharacter, getsInteger, spaces, newlines, newpages, getsString, sets, setsCharacterNumber, plainWork, askingWork, work, bufferOf, Book, book, Result, After, Ran, leave, call, run}
+
+-- ---- books, records and calls in short
+
+abbrev bytes : String → List ℕ
+bytes S.[] = []
+bytes (S._∷_ c s) = code c ∷ bytes s
+
+-- a text of n characters, "?" where nothing was stored
+abbrev stored : ℕ → String → List ℕ
+stored n s = bytes s ++ replicate (n - length (bytes s)) 63
+
+-- "rights get, put, reset, compress"; the same without compress; the same with set besides; get and put alone
+abbrev usual : Rights
+usual = record { get = true; put = true; «set» = false; reset = true; compress = true }
+
+abbrev blanking : Rights
+blanking = record { get = true; put = true; «set» = false; reset = true; compress = false }
+
+abbrev random : Rights
+random = record { get = true; put = true; «set» = true; reset = true; compress = true }
+
+-- a record of a shape, with moods and a position
+abbrev record-of : Rights → ℕ → ℕ → ℕ → Bool → Bool → Bool → Position → File
+record-of rights p l c opened reading writing x =
+    record { opened = opened; reading = reading; writing = writing; position = x; shape = record { pages = p; lines = l; characters = c }; rights = rights }
+
+-- the record of the book 2·3·8, writing or reading or in no mood, at a position
+abbrev writing : Position → File
+writing x = record-of usual 2 3 8 true false true x
+
+abbrev reading : Position → File
+reading x = record-of usual 2 3 8 true true false x
+
+abbrev moodless : Position → File
+moodless x = record-of usual 2 3 8 true false false x
+
+-- a list of calls on a book of "?" that was never opened: the last result, with the record and the book that are left
+abbrev lastOf : List Result → Result
+lastOf [] = record { ending = refusal 99; events = 0; taken = 0; count = 0; value = nothing; buffer = [] }
+lastOf (r ∷ []) = r
+lastOf (r ∷ r′ ∷ rs) = lastOf (r′ ∷ rs)
+
+abbrev lastly : Rights → ℕ → ℕ → ℕ → List Call → After
+lastly rights p l c ks =
+    let r = run ks (record-of rights p l c false false false (place 1 1 1)) (book (replicate (p * l * c) 63) (replicate (p * l) 0) (replicate p 0) (place 1 1 1)) in
+    record { result = lastOf (r .results); file = r .file; book = r .book }
+
+-- on the book 2·3·8
+abbrev after : List Call → After
+after ks = lastly usual 2 3 8 ks
+
+abbrev leaves : Result → File → Book → After
+leaves r f b = record { result = r; file = f; book = b }
+
+-- what is handed back: a number, events and answers taken, and a value
+abbrev gives : ℕ → ℕ → ℕ → Value → Result
+gives n e a v = record { ending = refusal n; events = e; taken = a; count = 0; value = v; buffer = [] }
+
+abbrev says : ℕ → ℕ → ℕ → Result
+says n e a = gives n e a nothing
+
+-- what a get of a string into 20 places of "?" hands back: its ending, events, answers taken and text
+abbrev got : Ending → ℕ → ℕ → String → Result
+got e n a s = record { ending = e; events = n; taken = a; count = length (bytes s); value = nothing; buffer = stored 20 s }
+
+-- the book 2·3·8 with full lengths, its text and its end
+abbrev holds : String → Position → Book
+holds s x = book (stored 48 s) (replicate 6 8) (replicate 2 3) x
+
+abbrev put : String → Call
+put s = asking (putsString (bytes s)) []
+
+abbrev get20 : List ℕ → Call
+get20 row = asking (getsString [] (replicate 20 63)) row
+
+-- ---- E1 to E11
+
+abbrev ten : List Call
+ten = plain establishes ∷ put "abcdefghij" ∷ []
+
+-- "put "abcdefghij": line 1 "abcdefgh", position and end (1,2,3), one event"
+abbrev E1 : Type 0
+E1 = after ten ≡ leaves (says 0 1 0) (writing (place 1 2 3)) (holds "abcdefghij" (place 1 2 3))
+
+-- "then reset, get a string into 20: "abcdefgh", stop 2, (1,1,9)"
+abbrev E2 : Type 0
+E2 = after (ten ++ (plain resets ∷ get20 [] ∷ [])) ≡ leaves (got (stopped 2) 1 0 "abcdefgh") (reading (place 1 1 9)) (holds "abcdefghij" (place 1 2 3))
+
+-- "again: empty, stop 2"
+abbrev E3 : Type 0
+E3 = after (ten ++ (plain resets ∷ get20 [] ∷ get20 [] ∷ [])) ≡ leaves (got (stopped 2) 1 0 "") (reading (place 1 1 9)) (holds "abcdefghij" (place 1 2 3))
+
+-- "instead of E3, row of one newline: "ij", stop 3, two events, one answer"
+abbrev E4 : Type 0
+E4 = after (ten ++ (plain resets ∷ get20 [] ∷ get20 (0x20000000 ∷ []) ∷ [])) ≡ leaves (got (stopped 3) 2 1 "ij") (reading (place 1 2 3)) (holds "abcdefghij" (place 1 2 3))
+
+-- "after E1, reset, put "Z": end (1,1,2)"
+abbrev E5 : Type 0
+E5 = after (ten ++ (plain resets ∷ put "Z" ∷ [])) ≡ leaves (says 0 0 0) (writing (place 1 1 2)) (holds "Zbcdefghij" (place 1 1 2))
+
+-- "fresh, "abcdef", set char number 3, put "X": "abXdef", end still (1,1,7)"
+abbrev E6 : Type 0
+E6 = after (plain establishes ∷ put "abcdef" ∷ asking (setsCharacterNumber 3) [] ∷ put "X" ∷ []) ≡ leaves (says 0 0 0) (writing (place 1 1 4)) (holds "abXdef" (place 1 1 7))
+
+-- "put 7 on a line of 10: refusal 10"
+abbrev E7 : Type 0
+E7 = lastly usual 2 3 10 (plain establishes ∷ asking (putsInteger (pos 7)) [] ∷ [])
+    ≡ leaves (says 10 0 0) (record-of usual 2 3 10 true false true (place 1 1 1)) (book (stored 60 "") (replicate 6 10) (replicate 2 3) (place 1 1 1))
+
+-- "on a line of 11 at c = 1: nine blanks and "+7""
+abbrev E8 : Type 0
+E8 = lastly usual 2 3 11 (plain establishes ∷ asking (putsInteger (pos 7)) [] ∷ [])
+    ≡ leaves (says 0 0 0) (record-of usual 2 3 11 true false true (place 1 1 12)) (book (stored 66 "         +7") (replicate 6 11) (replicate 2 3) (place 1 1 12))
+
+-- what whole writes into five places of "?"
+abbrev wrote : String → Written
+wrote s = record { number = 0; count = length (bytes s); buffer = stored 5 s }
+
+abbrev whole5 : ℤ → ℤ → Written
+whole5 v w = whole v w (stored 5 "")
+
+-- "whole(7,3) " +7"; (7,-3) "  7"; (7,1) "*"; (-7,-1) "*""
+abbrev E9 : Type 0
+E9 = (whole5 (pos 7) (pos 3) ≡ wrote " +7") × (whole5 (pos 7) (negsuc 2) ≡ wrote "  7") × (whole5 (pos 7) (pos 1) ≡ wrote "*") × (whole5 (negsuc 6) (negsuc 0) ≡ wrote "*")
+
+-- "(0,0) "0"; (123,3) "***""
+abbrev E10 : Type 0
+E10 = (whole5 (pos 0) (pos 0) ≡ wrote "0") × (whole5 (pos 123) (pos 3) ≡ wrote "***")
+
+-- "-2147483648: refusal 9"
+abbrev E11 : Type 0
+E11 = (whole5 (negsuc 2147483647) (pos 0) ≡ record { number = 9; count = 0; buffer = stored 5 "" })
+    × (after (plain establishes ∷ asking (putsInteger (negsuc 2147483647)) [] ∷ []) ≡ leaves (says 9 0 0) (writing (place 1 1 1)) (holds "" (place 1 1 1)))
+
+-- ---- the program `shown`: S permit, N, N, S deny; then each shown line and the end
+
+abbrev incident : List Call
+incident = plain establishes ∷ put "permit" ∷ asking newlines [] ∷ asking newlines [] ∷ put "deny" ∷ []
+
+abbrev incidentBook : Book
+incidentBook = book (stored 48 "permit??????????deny") (6 ∷ 0 ∷ 8 ∷ 8 ∷ 8 ∷ 8 ∷ []) (replicate 2 3) (place 1 3 5)
+
+abbrev showing : ℕ → String → Type 0
+showing l s = after (incident ++ (plain (views 1 l (bytes "(blank)")) ∷ [])) ≡ leaves (gives 0 0 0 (aView (bytes s))) (writing (place 1 3 5)) incidentBook
+
+abbrev Shown : Type 0
+Shown = (after incident ≡ leaves (says 0 0 0) (writing (place 1 3 5)) incidentBook) × showing 1 "permit" × showing 2 "(blank)" × showing 3 "deny"
+
+-- ---- readings of rules that E1 to E11 do not reach
+
+-- good file comes before good line: a reader at the end of a full last line hears logical end, refusal 7, and no line end
+abbrev FileFirst : Type 0
+FileFirst = lastly usual 1 1 3 (plain establishes ∷ put "abc" ∷ plain resets ∷ get20 [] ∷ asking getsCharacter [] ∷ [])
+    ≡ leaves (says 7 1 0) (record-of usual 1 1 3 true true false (place 1 1 4)) (book (stored 3 "abc") (3 ∷ []) (1 ∷ []) (place 1 1 4))
+
+-- newline without compress fills the line with blanks, to its end and no further
+abbrev Filled : Type 0
+Filled = lastly blanking 2 3 8 (plain establishes ∷ put "abc" ∷ asking newlines [] ∷ [])
+    ≡ leaves (says 0 0 0) (record-of blanking 2 3 8 true false true (place 1 2 1)) (book (stored 48 "abc     ") (replicate 6 8) (replicate 2 3) (place 1 2 1))
+
+-- newpage without compress blanks the rest of the page
+abbrev FilledPage : Type 0
+FilledPage = lastly blanking 2 2 4 (plain establishes ∷ put "abc" ∷ asking newpages [] ∷ [])
+    ≡ leaves (says 0 0 0) (record-of blanking 2 2 4 true false true (place 2 1 1)) (book (stored 16 "abc     ") (replicate 4 4) (replicate 2 2) (place 2 1 1))
+
+-- newpage with compress cuts the line at c-1 and the page after it
+abbrev CutPage : Type 0
+CutPage = lastly usual 2 3 4 (plain establishes ∷ put "abcdef" ∷ asking newpages [] ∷ [])
+    ≡ leaves (says 0 0 0) (record-of usual 2 3 4 true false true (place 2 1 1)) (book (stored 24 "abcdef") (4 ∷ 2 ∷ 4 ∷ 4 ∷ 4 ∷ 4 ∷ []) (2 ∷ 3 ∷ []) (place 2 1 1))
+
+-- the page before the line, if c = 1
+abbrev CutPageBefore : Type 0
+CutPageBefore = lastly usual 2 3 4 (plain establishes ∷ put "abc" ∷ asking newlines [] ∷ asking newpages [] ∷ [])
+    ≡ leaves (says 0 0 0) (record-of usual 2 3 4 true false true (place 2 1 1)) (book (stored 24 "abc") (3 ∷ 0 ∷ 4 ∷ 4 ∷ 4 ∷ 4 ∷ []) (1 ∷ 3 ∷ []) (place 2 1 1))
+
+-- good file is tested again after each default: line end, page end, then physical end
+abbrev Afresh : Type 0
+Afresh = lastly usual 1 1 1 (plain establishes ∷ put "aa" ∷ [])
+    ≡ leaves (says 7 3 0) (record-of usual 1 1 1 true false true (place 2 1 1)) (book (stored 1 "a") (1 ∷ []) (1 ∷ []) (place 2 1 1))
+
+-- an event inside an answer takes the next answer of the row, and its refusal ends the outer call: page end is answered newline, whose
+-- own page end is answered newpage; that newline starts again at the logical end, which is answered by nothing
+abbrev Nested : Type 0
+Nested = lastly usual 2 1 2 (plain establishes ∷ put "abcd" ∷ plain resets ∷ get20 [] ∷ asking newlines [] ∷ asking getsCharacter (0x20000000 ∷ 0x30000000 ∷ []) ∷ [])
+    ≡ leaves (says 7 3 2) (record-of usual 2 1 2 true true false (place 2 1 3)) (book (stored 4 "abcd") (2 ∷ 2 ∷ []) (1 ∷ 1 ∷ []) (place 2 1 3))
+
+-- kind 8: the call ends with 11, after the event is counted
+abbrev Jumped : Type 0
+Jumped = after (plain establishes ∷ put "ab" ∷ plain resets ∷ asking getsInteger (0x80000000 ∷ []) ∷ [])
+    ≡ leaves (says 11 1 1) (reading (place 1 1 2)) (holds "ab" (place 1 1 3))
+
+-- an integer with its sign, blanks and a line end before it
+abbrev Read : Type 0
+Read = lastly usual 1 2 8 (plain establishes ∷ put "   -  12" ∷ put "34,5" ∷ plain resets ∷ asking getsInteger (0x20000000 ∷ []) ∷ [])
+    ≡ leaves (gives 0 1 1 (anInteger (negsuc 1233))) (record-of usual 1 2 8 true true false (place 1 2 3)) (book (stored 16 "   -  1234,5") (8 ∷ 8 ∷ []) (2 ∷ []) (place 1 2 5))
+
+-- an integer too large: value, answered 1, is done with no value given
+abbrev TooLarge : Type 0
+TooLarge = lastly usual 1 1 12 (plain establishes ∷ put "2147483648 " ∷ plain resets ∷ asking getsInteger (0x10000000 ∷ []) ∷ [])
+    ≡ leaves (says 0 1 1) (record-of usual 1 1 12 true true false (place 1 1 11)) (book (stored 12 "2147483648 ") (12 ∷ []) (1 ∷ []) (place 1 1 12))
+
+-- set beyond the logical end goes to that end; refusal 7
+abbrev SetBeyond : Type 0
+SetBeyond = lastly random 2 3 8 (plain establishes ∷ put "abc" ∷ asking (sets (place 1 1 2)) [] ∷ asking (sets (place 9 0 0)) [] ∷ [])
+    ≡ leaves (says 7 1 0) (record-of random 2 3 8 true false true (place 1 1 4)) (holds "abc" (place 1 1 4))
+
+-- a view stops at the logical end, and the next line is not shown: refusal 6
+abbrev ViewToEnd : Type 0
+ViewToEnd = (after (plain establishes ∷ put "abc" ∷ plain (views 1 1 (bytes "-")) ∷ []) ≡ leaves (gives 0 0 0 (aView (bytes "abc"))) (writing (place 1 1 4)) (holds "abc" (place 1 1 4)))
+    × (after (plain establishes ∷ put "abc" ∷ plain (viewNumbers 1 2) ∷ []) ≡ leaves (says 6 0 0) (writing (place 1 1 4)) (holds "abc" (place 1 1 4)))
+
+-- refusals before work, in their order: not open before the row; the row before the right; the mood of a book without set
+abbrev Refused : Type 0
+Refused = (after (asking newlines (0x90000000 ∷ []) ∷ []) .result ≡ says 1 0 0)
+    × (after (plain establishes ∷ asking (sets (place 1 1 1)) (0x90000000 ∷ []) ∷ []) .result ≡ says 2 0 0)
+    × (after (plain establishes ∷ asking (sets (place 1 1 1)) [] ∷ []) .result ≡ says 4 0 0)
+    × (after (plain establishes ∷ asking getsCharacter [] ∷ []) .result ≡ says 5 0 0)
+    × (after (plain establishes ∷ plain resets ∷ asking newlines [] ∷ []) .result ≡ says 5 0 0)
+    × (lastly usual 2 3 256 (plain establishes ∷ []) .result ≡ says 3 0 0)
+
+pub table : (E1 × E2 × E3 × E4 × E5 × E6 × E7 × E8 × E9 × E10 × E11 × Shown)
+    × (FileFirst × Filled × FilledPage × CutPage × CutPageBefore × Afresh × Nested × Jumped × Read × TooLarge × SetBeyond × ViewToEnd × Refused)
+unfolding within before pageLength lineIndex lineLength characterIndex inBounds nextWord kindOf placeOf mendingOf answerOf suggested wordFits allWordsFit rowFits legal sizesFit allUpTo lengthsFit someRight moodsFit shapeFits bookFits allFits _>>=_ pure halt attempt look change branch test fileEnded signal moodOn backspace reset characterHere size store blanks blankLine blankLines cutLine cutPage fillLine fillPage endLine endPage printable digit fitsHere Steps.backspaces signals signalWhile goodFileBody goodPageBody atPageEndBody goodLineBody atLineEndBody newlineBody newpageBody setToBody performBody answeredBody characterEvent putCharacterBody roomForBody passBlanksBody moreDigitsBody spaceStep setCharacterNumberBody body spent supply bounded execute digitsUpTo signed padded wholeText lowest whole begin turnable established establishing opening closing resetting backspacing shown shownLength shownPart orMarker viewing viewNumber putCharacters puttingString putText puttingInteger takeCharacter gettingCharacter oneOf stringCharacter getCharacters gettingString firstDigit withSign integerGiven gettingInteger spacing newlining newpaging settingCharacterNumber setting plainWork askingWork work bufferOf leave call run
+table = (
+  (refl, refl, refl, refl, refl, refl, refl, refl, (refl, refl, refl, refl), (refl, refl), (refl, refl), (refl, refl, refl, refl)),
+  (refl, refl, refl, refl, refl, refl, refl, refl, refl, refl, refl, (refl, refl), (refl, refl, refl, refl, refl, refl)),
+)

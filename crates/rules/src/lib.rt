@@ -1,0 +1,74 @@
+// What a reader must believe: the types of the core, all by value, and in specs/ what every step and call of document 01 means.
+// The table of its examples stands in proofs/.
+
+// A position: page, line and character, each counted from 1.
+pub struct Position {
+    pub page: usize,
+    pub line: usize,
+    pub character: usize,
+}
+
+// The established shape of a book: pages, lines of a page, characters of a line (document 01's P, L and C).
+pub struct Shape {
+    pub pages: usize,
+    pub lines: usize,
+    pub characters: usize,
+}
+
+// The five rights of a channel.
+pub struct Rights {
+    pub get: bool,
+    pub put: bool,
+    pub set: bool,
+    pub reset: bool,
+    pub compress: bool,
+}
+
+// The file record. `reading` is document 01's read mood, `writing` its write mood.
+pub struct File {
+    pub opened: bool,
+    pub reading: bool,
+    pub writing: bool,
+    pub position: Position,
+    pub shape: Shape,
+    pub rights: Rights,
+}
+
+// A running call: the record, the book's logical end, the events signalled and the answers taken so far.
+pub struct Run {
+    pub file: File,
+    pub end: Position,
+    pub events: usize,
+    pub taken: usize,
+}
+
+// How a step ends. Number 0 and stop 0: it is done, and the call goes on. Otherwise the number of a refusal, or the
+// stop of a string.
+pub struct Ending {
+    pub number: u8,
+    pub stop: u8,
+}
+
+// The running call after a step, and how the step ended.
+pub struct Outcome {
+    pub run: Run,
+    pub ending: Ending,
+}
+
+// What a call gives: a character, an integer, or nothing but its number and stop.
+pub enum Given {
+    Nothing(Ending),
+    Character(u8),
+    Integer(i32),
+}
+
+// All that a call hands back by value: the record, the logical end, the events signalled, the answers taken, the count
+// of characters delivered, and what is given.
+pub struct Reply {
+    pub file: File,
+    pub end: Position,
+    pub events: usize,
+    pub taken: usize,
+    pub count: usize,
+    pub given: Given,
+}
