@@ -77,20 +77,20 @@ upon event isFalse follow default = default
 upon event jump follow default = refuseAt event 11
 upon event (isTrue m) follow default = follow m
 
+-- while a test holds, an event; then the step starts afresh, after a default too
+unfoldable pub signalWhile : (State → Bool) → Step Unit → Step Unit → Step Unit
+signalWhile ended event afresh = test ended
+    (do
+      event
+      afresh)
+    (pure tt)
+
 module _ (row : List ℕ) (go : (action : Action) → Step (Gives action)) where
   -- signal an event, with its default; "After an answer the call's mood is set again and the tests start afresh."
   unfoldable pub signals : Event → Bool → Step Unit → Step Unit
   signals event reading default = do
     a ← signal event row
     upon event a (λ m. go (answered reading m)) default
-
-  -- while a test holds, an event; then the step starts afresh, after a default too
-  unfoldable pub signalWhile : (State → Bool) → Step Unit → Step Unit → Step Unit
-  signalWhile ended event afresh = test ended
-      (do
-        event
-        afresh)
-      (pure tt)
 
   -- "Good file: reading, signal logical end while the position is at it; writing, signal physical end while p > P. Default: refusal
   -- 7." In a string "a logical end answered 0 is stop 3".

@@ -1,0 +1,6 @@
+pub mod Order
+pub mod Validity
+pub mod Progress
+pub mod Walk
+pub mod Unfolding
+pub mod Entry
