@@ -121,6 +121,7 @@ pub at-need : {B : Type 0} {E : Ending → State → Type 0} {R : B → State �
     → (f s ≡ true → (x : Unit {0}) → At E R (k x) (k′ x) s t) → (f s ≡ false → E (refusal n) s) → At E R (need n f >>= k) (need n f >>= k′) s t
 unfolding _>>=_ test
 at-need {k = k} {k′ = k′} n f s t h e = let x = need-case n (f s) k k′ s t (λ y. h y tt) e in record { same = x .0; post = x .1 }
+
 -- an event's answer
 pub at-upon : {A : Type 0} {E : Ending → State → Type 0} {Q : A → State → Type 0} {s : State} {t : List ℕ} (event : Event) (a : Answer) {f f′ : Mending → Step A} {d d′ : Step A}
     → At E Q d d′ s t → E (refusal 11) s → ((m : Mending) → a ≡ isTrue m → At E Q (f m) (f′ m) s t) → At E Q (upon event a f d) (upon event a f′ d′) s t
@@ -247,6 +248,7 @@ at-backspaces (suc n) s₀ s t he x = at-bind (at-backspace s t (x .valid) (he s
 pub at-reset : {E : Ending → State → Type 0} (s : State) (t : List ℕ) → Valid s → E (refusal 4) s → At E (λ _ u. Still s u) reset reset s t
 unfolding reset
 at-reset s t v e = at-need 4 (λ s. rightsOf s .reset) s t (λ h _. at-change _ _ (record { valid = first-valid s v; events = refl; taken = refl })) (λ _. e)
+
 pub at-here : {E : Ending → State → Type 0} {Q : ℕ → State → Type 0} (s : State) (t : List ℕ) → ((c : ℕ) → Q c s) → At E Q characterHere characterHere s t
 unfolding characterHere
 at-here s t h = record { same = refl; post = post-done (h _) }

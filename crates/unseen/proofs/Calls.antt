@@ -169,10 +169,12 @@ all-alike s t t′ q g =
 -- a call that begins with the tests of refusals 1 and 3
 loose-begin : {A : Type 0} {rest : Step A} (s : State) → Safe (rightsOf s) (s .lengths) rest → LooseAt false s (begin rest)
 unfolding begin
-loose-begin {rest = rest} s h = record { loose = λ t t′ g.
-    loose-need 1 (λ s. s .run .file .opened) _ s t t′ g (λ _.
-    loose-size (λ n. need 3 (allFits n) >>= λ _. rest) s t t′ (g .sizes)
-    (loose-need 3 (allFits (length t)) rest s t t′ g (λ q. rel-loosen s (length t) (h .sim s t t′ (all-sound (length t) s q) tt (all-alike s t t′ q g))))) }
+loose-begin {rest = rest} s h = record {
+  loose = λ t t′ g.
+      loose-need 1 (λ s. s .run .file .opened) _ s t t′ g (λ _.
+      loose-size (λ n. need 3 (allFits n) >>= λ _. rest) s t t′ (g .sizes)
+      (loose-need 3 (allFits (length t)) rest s t t′ g (λ q. rel-loosen s (length t) (h .sim s t t′ (all-sound (length t) s q) tt (all-alike s t t′ q g)))));
+}
 
 -- ---- the work of each call
 
@@ -404,8 +406,10 @@ opened-alike s t t′ q g = lboth (reopened q) (record { sizes = g .sizes; same 
 
 loose-establishing : (s : State) → LooseAt true s establishing
 unfolding establishing
-loose-establishing s = record { loose = λ t t′ g. loose-size _ s t t′ (g .sizes)
-    (loose-need 3 (shapeFits (length t)) _ s t t′ g (λ q. loose-need 4 (λ s. rightsOf s .put) _ s t t′ g (λ r. established-alike s t t′ q r g))) }
+loose-establishing s = record {
+  loose = λ t t′ g. loose-size _ s t t′ (g .sizes)
+      (loose-need 3 (shapeFits (length t)) _ s t t′ g (λ q. loose-need 4 (λ s. rightsOf s .put) _ s t t′ g (λ r. established-alike s t t′ q r g)));
+}
 
 loose-opening : (s : State) → LooseAt false s opening
 unfolding opening

@@ -29,8 +29,16 @@ use Rattle.unseen.proofs.Calls.{Loosely, Kept, unchanged, worked, reope
 
 legal-true : (h : Shape) → Legal h → legal h ≡ true
 unfolding legal within
-legal-true h g = rw (le-leb 1 (h .pages) (g .pages .0), le-leb (h .pages) 255 (g .pages .1), le-leb 1 (h .lines) (g .lines .0), le-leb (h .lines) 255 (g .lines .1), le-leb 1 (h .characters) (g .characters .0), le-leb (h .characters) 255 (g .characters .1),
-    le-leb (h .pages * h .lines) 1024 (g .all-lines), le-leb (h .pages * h .lines * h .characters) 65536 (g .all-characters))
+legal-true h g = rw (
+  le-leb 1 (h .pages) (g .pages .0),
+  le-leb (h .pages) 255 (g .pages .1),
+  le-leb 1 (h .lines) (g .lines .0),
+  le-leb (h .lines) 255 (g .lines .1),
+  le-leb 1 (h .characters) (g .characters .0),
+  le-leb (h .characters) 255 (g .characters .1),
+  le-leb (h .pages * h .lines) 1024 (g .all-lines),
+  le-leb (h .pages * h .lines * h .characters) 65536 (g .all-characters),
+)
 
 sizes-true : (h : Shape) (f : Lengths) (n : ℕ) → Sizes h f n → sizesFit h f n ≡ true
 unfolding sizesFit
@@ -43,8 +51,14 @@ all-true most (x ∷ xs) h = rw (le-leb x most (h 0)) (all-true most xs (λ k. h
 
 bounds-true : (h : Shape) (f : Lengths) (x : Position) → InBounds h f x → inBounds h f x ≡ true
 unfolding inBounds within
-bounds-true h f x i = rw (le-leb 1 (x .page) (i .page-low), le-leb (x .page) (h .pages + 1) (i .page-high), le-leb 1 (x .line) (i .line-low), le-leb (x .line) (pageLength (f .pages) (x .page) + 1) (i .line-high),
-    le-leb 1 (x .character) (i .character-low), le-leb (x .character) (lineLength h f (x .page) (x .line) + 1) (i .character-high))
+bounds-true h f x i = rw (
+  le-leb 1 (x .page) (i .page-low),
+  le-leb (x .page) (h .pages + 1) (i .page-high),
+  le-leb 1 (x .line) (i .line-low),
+  le-leb (x .line) (pageLength (f .pages) (x .page) + 1) (i .line-high),
+  le-leb 1 (x .character) (i .character-low),
+  le-leb (x .character) (lineLength h f (x .page) (x .line) + 1) (i .character-high),
+)
 
 order-false : (at end : Position) → Near at → Near end → rank at ≤ rank end → before end at ≡ false
 order-false at end na ne o = split (before end at) (λ e. absurd (let k = before-true end at ne na e in omega arith)) (λ e. e)
@@ -61,9 +75,19 @@ facts-test : (n : ℕ) (s : State) → Facts n s → T (allFits n s)
 unfolding allFits bookFits shapeFits lengthsFit someRight moodsFit
 facts-test n s a =
     let v = a .rules in
-    is-yes (allFits n s) (rw (legal-true (shapeOf s) (a .legal-shape), sizes-true (shapeOf s) (s .lengths) n (a .sizes), yes (rightsOf s .get || rightsOf s .put) (a .some), all-true (shapeOf s .characters) (s .lengths .lines) (v .line-fits),
-    all-true (shapeOf s .lines) (s .lengths .pages) (v .page-fits), bounds-true (shapeOf s) (s .lengths) (endOf s) (v .end-in), bounds-true (shapeOf s) (s .lengths) (here s) (v .at-in), order-false (here s) (endOf s) (near-at v) (near-end v) (v .order),
-    yes (not (s .run .file .reading && s .run .file .writing)) (a .moods .one), yes (not (s .run .file .reading) || rightsOf s .get) (a .moods .get), yes (not (s .run .file .writing) || rightsOf s .put) (a .moods .put)))
+    is-yes (allFits n s) (rw (
+      legal-true (shapeOf s) (a .legal-shape),
+      sizes-true (shapeOf s) (s .lengths) n (a .sizes),
+      yes (rightsOf s .get || rightsOf s .put) (a .some),
+      all-true (shapeOf s .characters) (s .lengths .lines) (v .line-fits),
+      all-true (shapeOf s .lines) (s .lengths .pages) (v .page-fits),
+      bounds-true (shapeOf s) (s .lengths) (endOf s) (v .end-in),
+      bounds-true (shapeOf s) (s .lengths) (here s) (v .at-in),
+      order-false (here s) (endOf s) (near-at v) (near-end v) (v .order),
+      yes (not (s .run .file .reading && s .run .file .writing)) (a .moods .one),
+      yes (not (s .run .file .reading) || rightsOf s .get) (a .moods .get),
+      yes (not (s .run .file .writing) || rightsOf s .put) (a .moods .put),
+    ))
 
 -- ---- the facts after a call
 
