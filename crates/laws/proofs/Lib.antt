@@ -4,3 +4,5 @@ pub mod Progress
 pub mod Walk
 pub mod Unfolding
 pub mod Entry
+pub mod Ways
+pub mod Cases

@@ -151,6 +151,9 @@ from-start {s = s} rd = record { ready = rd; closer = omega arith; gain = gain-n
 pub from-gain : {row : List ℕ} {self : Action} {s : State} (b : State) → Ready row self s → Valid b → b .run .taken ≤ length row → Gain 0 (s .run) (b .run) → From row self s b
 from-gain {row} {self} {s} b rd v t g = record { ready = ready-on row self s rd b v t g; closer = measure-on row self s rd b g; gain = g }
 
+pub from-trans : {row : List ℕ} {self : Action} {s b c : State} → From row self s b → From row self b c → From row self s c
+from-trans p q = record { ready = q .ready; closer = omega (arith, p .closer, q .closer); gain = gain-trans (p .gain) (q .gain) }
+
 -- ---- an event
 
 -- the state after an event
@@ -165,17 +168,15 @@ false-word : answerOf 0 ≡ isFalse
 unfolding answerOf kindOf
 false-word = refl
 
-took-answer : (row : List ℕ) (s : State) (m : Mending) → answer row s ≡ isTrue m → s .run .taken < length row
+-- an event that got no false answer took one of the row
+took-answer : (row : List ℕ) (s : State) → (answer row s ≡ isFalse → ⊥) → s .run .taken < length row
 unfolding nextWord
-took-answer row s m h =
+took-answer row s h =
     split (ltb (s .run .taken) (length row)) (λ e. ltb-true (s .run .taken) (length row) e)
-    (λ e. absurd (impossible (sym (ap answerOf (List·getD-eq-default row 0 (ltb-false (s .run .taken) (length row) e)) ∙ false-word) ∙ h)))
-  where
-    impossible : isFalse ≡ isTrue m → ⊥
-    impossible p = let o : _≡_ {A = ℕ} 0 1 = cc in omega arith
+    (λ e. absurd (h (ap answerOf (List·getD-eq-default row 0 (ltb-false (s .run .taken) (length row) e)) ∙ false-word)))
 
-pub heard-taken : (row : List ℕ) (s : State) (m : Mending) → answer row s ≡ isTrue m → signalledBy row (s .run) .taken ≡ s .run .taken + 1
-heard-taken row s m h = rw (lt-ltb (s .run .taken) (length row) (took-answer row s m h))
+heard-taken : (row : List ℕ) (s : State) → (answer row s ≡ isFalse → ⊥) → signalledBy row (s .run) .taken ≡ s .run .taken + 1
+heard-taken row s h = rw (lt-ltb (s .run .taken) (length row) (took-answer row s h))
 
 pub heard-took : (row : List ℕ) (s : State) → s .run .taken ≤ length row → (signalledBy row (s .run) .taken ≤ length row) × (s .run .taken ≤ signalledBy row (s .run) .taken)
 heard-took row s h =
@@ -183,17 +184,17 @@ heard-took row s h =
     (λ e. rw e (omega (arith, ltb-true (s .run .taken) (length row) e)))
     (λ e. rw e (omega arith))
 
--- an answer taken: the state is well further on
-pub heard-gain : (row : List ℕ) (s : State) (m : Mending) → answer row s ≡ isTrue m → Gain 15 (s .run) (heard row s .run)
+-- then the state is well further on
+pub heard-gain : (row : List ℕ) (s : State) → (answer row s ≡ isFalse → ⊥) → Gain 15 (s .run) (heard row s .run)
 unfolding spent
-heard-gain row s m h = let e : signalledBy row (s .run) .taken ≡ s .run .taken + 1 = heard-taken row s m h in record { more = omega arith; gains = omega (arith, e) }
+heard-gain row s h = let e : signalledBy row (s .run) .taken ≡ s .run .taken + 1 = heard-taken row s h in record { more = omega arith; gains = omega (arith, e) }
 
--- and after its step the state is well further on
-pub answered-gain : (row : List ℕ) (action : Action) (s u : State) → Ready row action s → (m : Mending) → answer row s ≡ isTrue m → Valid u → Answered (signalledBy row (s .run)) (u .run) → Gain 15 (s .run) (u .run)
+-- and so it is after the answer's step
+pub answered-gain : (row : List ℕ) (action : Action) (s u : State) → Ready row action s → (answer row s ≡ isFalse → ⊥) → Valid u → Answered (signalledBy row (s .run)) (u .run) → Gain 15 (s .run) (u .run)
 unfolding spent
-answered-gain row action s u rd m h v d =
+answered-gain row action s u rd h v d =
     let b : Near (here s) = near-at (rd .valid) in
-    let e : signalledBy row (s .run) .taken ≡ s .run .taken + 1 = heard-taken row s m h in
+    let e : signalledBy row (s .run) .taken ≡ s .run .taken + 1 = heard-taken row s h in
     record { more = omega (arith, d .more); gains = omega (arith, d .gains, e, b) }
 
 -- the default of an event

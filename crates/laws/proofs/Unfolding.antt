@@ -11,7 +11,7 @@ use borrow.Author.Tests.{ltb-true, eqb-true, not-false}
 use Rattle.rules.specs.declared.Position.{Position}
 use Rattle.rules.specs.declared.Run.{Run}
 use Rattle.rules.specs.declared.Ending.{Ending}
-use Rattle.rules.specs.Book.{choose, before, within, nextCharacter, nextLine, nextPage, inBounds, pageLength, State, onRun, here, endOf, shapeOf, rightsOf, lineHere, movedTo, Event, logicalEnd, physicalEnd, pageEnd, lineEnd, Mending, Answer, isTrue, suggested}
+use Rattle.rules.specs.Book.{choose, before, within, nextCharacter, nextLine, nextPage, inBounds, pageLength, State, onRun, here, endOf, shapeOf, rightsOf, lineHere, movedTo, Event, logicalEnd, physicalEnd, pageEnd, lineEnd, Mending, Answer, isFalse, isTrue, suggested}
 use Rattle.rules.specs.Step.{Step, _>>=_, refusal, stopped, branch, test, fileEnded, pageEnded, lineEnded, onEndPage, onEndLine, store}
 use Rattle.rules.specs.Steps.{Action, Gives, goodFile, goodPage, goodLine, atPageEnd, atLineEnd, newline, newpage, setTo, perform, answered, putCharacter, roomFor, passBlanks, moreDigits, setCharacterNumber, printable, digit, fitsHere, isStop, fileEnd, signals, signalWhile, goodFileBody, goodPageBody, atPageEndBody, goodLineBody, atLineEndBody, newlineBody, newpageBody, setToBody, performBody, answeredBody, characterEvent, putCharacterBody, roomForBody, passBlanksBody, moreDigitsBody, spaceStep, setCharacterNumberBody, body, rank, spentBy, stage, measure, bounded, execute}
 use Rattle.laws.proofs.Order.{is-yes}
@@ -20,10 +20,13 @@ use Rattle.laws.proofs.Progress.{Gain, Answered, Ready, FileGood, Done,
 use Rattle.laws.proofs.Walk.{Ended, Post, At, at-pure, at-halt, at-change, at-bind, at-attempt, at-branch, at-test, at-weak, at-signal, at-first, at-look, at-character, at-need, at-upon, at-here, ended-here, ended-heard, ended-on, ended-default, Closed, at-endLine, at-endPage, pass-gain, at-store, still-heard, still-ended, good-before, at-mood, at-backspace, at-backspaces, at-reset}
 
 -- a state well further on than b
-record On (row : List ℕ) (b u : State) : Type 0 where
-  valid : Valid u
-  took : u .run .taken ≤ length row
-  gain : Gain 15 (b .run) (u .run)
+pub record On (row : List ℕ) (b u : State) : Type 0 where
+  pub valid : Valid u
+  pub took : u .run .taken ≤ length row
+  pub gain : Gain 15 (b .run) (u .run)
+
+true-not : {a : Answer} (m : Mending) → a ≡ isTrue m → a ≡ isFalse → ⊥
+true-not m p q = let o : _≡_ {A = ℕ} 0 1 = cc in omega arith
 
 end-gain : (s : State) → Valid s → Gain 0 (s .run) (toEnd s .run)
 end-gain s v = moved-gain s (endOf s) 0 (omega (arith, v .order))
@@ -55,8 +58,8 @@ module _ (row : List ℕ) (f g : (action : Action) → Step (Gives action)) wher
         at-weak (λ e r y. ended-on 0 row self self s b e r (m .gain) (omega arith) (ended-default row self inner b e r (m .ready) h y)) (λ _ u d. d) (ag inner (heard row b) t (x .0) (omega (arith, x .1, m .closer)))
 
     -- after an answer was taken
-    at-answer : (x : Mending) → answer row b ≡ isTrue x → (inner : Action) (t : List ℕ) → At (Ended row self s) (λ _ u. Done row inner (heard row b) u) (f inner) (g inner) (heard row b) t
-    at-answer x e inner t = at-later inner (heard row b) t (m .ready .valid) (heard-took row b (m .ready .took) .0) (heard-gain row b x e)
+    at-answer : (answer row b ≡ isFalse → ⊥) → (inner : Action) (t : List ℕ) → At (Ended row self s) (λ _ u. Done row inner (heard row b) u) (f inner) (g inner) (heard row b) t
+    at-answer e inner t = at-later inner (heard row b) t (m .ready .valid) (heard-took row b (m .ready .took) .0) (heard-gain row b e)
 
     -- a refusal right after an event
     heard-end : (e : Ending) → e .number ≤ 12 → 1 ≤ stage self → Ended row self s e (heard row b)
@@ -66,14 +69,14 @@ module _ (row : List ℕ) (f g : (action : Action) → Step (Gives action)) wher
     here-end : (e : Ending) → e .number ≤ 12 → Ended row self s e b
     here-end e k = ended-on 0 row self self s b e b (m .gain) (omega arith) (ended-here row self b e (m .ready) k)
 
-    on-answered : (x : Mending) → answer row b ≡ isTrue x → (u : State) → Valid u → u .run .taken ≤ length row → Answered (heard row b .run) (u .run) → On row b u
-    on-answered x e u v k d = record { valid = v; took = k; gain = answered-gain row self b u (m .ready) x e v d }
+    on-answered : (answer row b ≡ isFalse → ⊥) → (u : State) → Valid u → u .run .taken ≤ length row → Answered (heard row b .run) (u .run) → On row b u
+    on-answered e u v k d = record { valid = v; took = k; gain = answered-gain row self b u (m .ready) e v d }
 
     at-signals : (event : Event) (reading : Bool) {d d′ : Step (Unit {0})} (t : List ℕ) → 1 ≤ stage self
         → At (Ended row self s) (λ _ u. On row b u) d d′ (heard row b) t → At (Ended row self s) (λ _ u. On row b u) (signals row f event reading d) (signals row g event reading d′) b t
     unfolding signals
     at-signals event reading t h hd = at-signal event row b t λ a w. at-upon event a hd (heard-end (refusal 11) (omega arith) h)
-        (λ x e. at-weak (λ e u y. y) (λ _ u d. on-answered x (sym w ∙ e) u (d .valid) (d .took) (d .claim)) (at-answer x (sym w ∙ e) (answered reading x) t))
+        (λ x e. at-weak (λ e u y. y) (λ _ u d. on-answered (true-not x (sym w ∙ e)) u (d .valid) (d .took) (d .claim)) (at-answer (true-not x (sym w ∙ e)) (answered reading x) t))
 
     at-while : {Q : Unit {0} → State → Type 0} (ended : State → Bool) {event event′ afresh afresh′ : Step (Unit {0})} (t : List ℕ)
         → (ended b ≡ false → Q tt b)
@@ -86,7 +89,7 @@ module _ (row : List ℕ) (f g : (action : Action) → Step (Gives action)) wher
     at-characterEvent : (reading : Bool) (c : ℕ) (t : List ℕ) → 1 ≤ stage self → At (Ended row self s) (λ _ u. On row b u) (characterEvent row f reading c) (characterEvent row g reading c) b t
     unfolding characterEvent
     at-characterEvent reading c t h = at-signal Event.character row b t λ a w. at-upon Event.character a (at-halt (refusal 8) (heard-end (refusal 8) (omega arith) h)) (heard-end (refusal 11) (omega arith) h)
-        (λ x e. at-bind (at-answer x (sym w ∙ e) (answered reading x) t) λ _ u t d. at-pure (λ _ u. On row b u) (suggested x c) (on-answered x (sym w ∙ e) u (d .valid) (d .took) (d .claim)))
+        (λ x e. at-bind (at-answer (true-not x (sym w ∙ e)) (answered reading x) t) λ _ u t d. at-pure (λ _ u. On row b u) (suggested x c) (on-answered (true-not x (sym w ∙ e)) u (d .valid) (d .took) (d .claim)))
 
     -- after an event, the same action again
     at-afresh : (inner : Action) (u : State) (t : List ℕ) → On row b u → At (Ended row self s) (λ _ r. Done row inner u r) (f inner) (g inner) u t
@@ -189,8 +192,8 @@ module _ (row : List ℕ) (f g : (action : Action) → Step (Gives action)) wher
       (λ o. at-first _ s t λ _. at-signal logicalEnd row (toEnd s) t λ a w. at-upon logicalEnd a
       (at-halt (refusal 7) (heard-end ag me (refusal 7) (omega arith) (omega arith)))
       (heard-end ag me (refusal 11) (omega arith) (omega arith))
-      (λ y e. at-weak (λ e u z. z) (λ _ u d. record { valid = d .valid; took = d .took; claim = gain-answered s u (d .valid) (gain-trans (me .gain) (on-answered ag me y (sym w ∙ e) u (d .valid) (d .took) (d .claim) .gain)) })
-      (at-answer ag me y (sym w ∙ e) (perform y) t)))
+      (λ y e. at-weak (λ e u z. z) (λ _ u d. record { valid = d .valid; took = d .took; claim = gain-answered s u (d .valid) (gain-trans (me .gain) (on-answered ag me (true-not y (sym w ∙ e)) u (d .valid) (d .took) (d .claim) .gain)) })
+      (at-answer ag me (true-not y (sym w ∙ e)) (perform y) t)))
       (λ o. at-need 6 (λ s. inBounds (shapeOf s) (s .lengths) x) s t
       (λ i _.
       let b = in-bounds (shapeOf s) (s .lengths) x (is-yes _ i) in
