@@ -1,0 +1,298 @@
+//! Plays random episodes on this implementation and on another program, and compares every
+//! line that they write.
+
+use std::io::{Read, Write};
+use std::process::{Child, Command, Stdio};
+use std::sync::mpsc;
+use std::thread;
+use std::time::{Duration, Instant};
+
+use crate::episodes::{make_episode, Script};
+use crate::random::Random;
+use crate::replay::{replay, Player};
+use crate::say;
+use crate::shrink::shrink;
+
+/// What `second differ` was asked to do.
+pub struct Options {
+    pub ours: String,
+    pub seed: u64,
+    pub episodes: u64,
+    pub seconds: Option<u64>,
+}
+
+/// Episodes that one run of the other program plays.
+const BATCH: u64 = 250;
+
+/// "Stops after the first few differences."
+const MOST_DIFFERENCES: u64 = 3;
+
+/// How long the other program may take for a batch, for one script while shrinking, and how
+/// long shrinking may take.
+const BATCH_PATIENCE: Duration = Duration::from_secs(120);
+const SCRIPT_PATIENCE: Duration = Duration::from_secs(15);
+const SHRINK_PATIENCE: Duration = Duration::from_secs(60);
+
+/// Lines that a report shows of a script or an output.
+const MOST_LINES: usize = 80;
+
+/// What the other program wrote, and a remark when it did not end well.
+pub struct Reply {
+    pub output: Vec<u8>,
+    pub remark: String,
+}
+
+/// Episodes played in one script, with where each one's output ends.
+struct Batch {
+    episodes: Vec<Script>,
+    output: Vec<u8>,
+    ends: Vec<usize>,
+}
+
+/// A script as the bytes to be read.
+fn script_bytes(lines: &Script) -> Vec<u8> {
+    let mut bytes = Vec::new();
+    for line in lines {
+        bytes.extend_from_slice(line);
+        bytes.push(b'\n');
+    }
+    bytes
+}
+
+/// Reads what the other program writes, but not much more than it should write.
+fn read_reply(mut child: Child, most: u64, patience: Duration) -> Reply {
+    let mut output = Vec::new();
+    let (sender, receiver) = mpsc::channel();
+    let stdout = child.stdout.take();
+    thread::spawn(move || {
+        let mut bytes = Vec::new();
+        let read = stdout.map(|stdout| stdout.take(most).read_to_end(&mut bytes));
+        let _ = sender.send((bytes, matches!(read, Some(Ok(_)))));
+    });
+    let mut remark = String::new();
+    match receiver.recv_timeout(patience) {
+        Ok((bytes, true)) if (bytes.len() as u64) < most => output = bytes,
+        Ok((bytes, _)) => {
+            output = bytes;
+            remark = "wrote far too much, or could not be read".to_string();
+            let _ = child.kill();
+        }
+        Err(_) => {
+            remark = format!("gave no end in {} seconds", patience.as_secs());
+            let _ = child.kill();
+        }
+    }
+    match child.wait() {
+        Ok(status) if remark.is_empty() && status.code().is_none_or(|code| code == 101) => {
+            remark = format!("died: {status}");
+        }
+        _ => (),
+    }
+    Reply { output, remark }
+}
+
+/// Runs the other program with a script on its standard input.
+fn run_other(
+    path: &str,
+    script: Vec<u8>,
+    expected: usize,
+    patience: Duration,
+) -> std::io::Result<Reply> {
+    let mut child = Command::new(path)
+        .stdin(Stdio::piped())
+        .stdout(Stdio::piped())
+        .stderr(Stdio::null())
+        .spawn()?;
+    let stdin = child.stdin.take();
+    let writer = thread::spawn(move || {
+        if let Some(mut stdin) = stdin {
+            let _ = stdin.write_all(&script);
+        }
+    });
+    let reply = read_reply(child, expected as u64 + 1_000_000, patience);
+    if reply.remark.is_empty() {
+        let _ = writer.join();
+    }
+    Ok(reply)
+}
+
+/// True when the two write something different for a script.
+fn differs(path: &str, lines: &Script) -> std::io::Result<bool> {
+    let script = script_bytes(lines);
+    let expected = replay(&script);
+    let reply = run_other(path, script, expected.len(), SCRIPT_PATIENCE)?;
+    Ok(reply.output != expected || !reply.remark.is_empty())
+}
+
+/// Makes a batch of episodes, from one number to another, on one player.
+fn make_batch(seed: u64, from: u64, to: u64) -> Batch {
+    let mut player = Player::new();
+    let mut batch = Batch {
+        episodes: Vec::new(),
+        output: Vec::new(),
+        ends: Vec::new(),
+    };
+    for number in from..to {
+        let random = Random::for_episode(seed, number);
+        let episode = make_episode(random, &mut player, &mut batch.output);
+        batch.episodes.push(episode);
+        batch.ends.push(batch.output.len());
+    }
+    batch
+}
+
+/// The first episode of a batch whose output differs, if any does.
+fn first_difference(batch: &Batch, reply: &Reply) -> Option<usize> {
+    if batch.output == reply.output && reply.remark.is_empty() {
+        return None;
+    }
+    let pairs = batch.output.iter().zip(&reply.output);
+    let same = pairs.take_while(|(one, other)| one == other).count();
+    let index = batch.ends.iter().position(|&end| end > same);
+    Some(index.unwrap_or(batch.episodes.len().saturating_sub(1)))
+}
+
+/// The episode that differs, made alone if it differs alone, else with all before it.
+fn isolate(path: &str, batch: &Batch, index: usize) -> std::io::Result<Script> {
+    let alone = batch.episodes[index].clone();
+    if differs(path, &alone)? {
+        return Ok(alone);
+    }
+    Ok(batch.episodes[..=index].concat())
+}
+
+/// A line of output to be shown, cut when it is very long.
+fn shown_line(line: &[u8]) -> String {
+    let text = String::from_utf8_lossy(line);
+    let short: String = text.chars().take(300).collect();
+    if short.len() < text.len() {
+        format!("{short}... ({} bytes)", line.len())
+    } else {
+        short
+    }
+}
+
+/// Several lines to be shown, each with a little space before it, and not too many.
+fn shown_lines(bytes: &[u8]) -> String {
+    let lines: Vec<&[u8]> = bytes.split_inclusive(|&byte| byte == b'\n').collect();
+    let mut shown = String::new();
+    for line in lines.iter().take(MOST_LINES) {
+        let line = line.strip_suffix(b"\n").unwrap_or(line);
+        shown += &format!("    {}\n", shown_line(line));
+    }
+    if lines.len() > MOST_LINES {
+        shown += &format!("    ... ({} lines)\n", lines.len());
+    }
+    shown
+}
+
+/// The first line in which two outputs differ, as a report.
+fn first_differing_line(expected: &[u8], output: &[u8]) -> String {
+    let mut ones = expected.split(|&byte| byte == b'\n');
+    let mut others = output.split(|&byte| byte == b'\n');
+    let mut number = 1;
+    if expected == output {
+        return "none".to_string();
+    }
+    loop {
+        let (one, other) = (ones.next(), others.next());
+        if one != other || one.is_none() {
+            let one = one.map_or("(no line)".to_string(), shown_line);
+            let other = other.map_or("(no line)".to_string(), shown_line);
+            return format!("line {number}\n    second: {one}\n    other:  {other}");
+        }
+        number += 1;
+    }
+}
+
+/// Shrinks a script that differs and says all about it.
+fn report(path: &str, script: Script, title: &str) -> std::io::Result<()> {
+    let start = Instant::now();
+    let mut question =
+        |lines: &Script| start.elapsed() < SHRINK_PATIENCE && differs(path, lines).unwrap_or(false);
+    let short = shrink(script, &mut question);
+    let bytes = script_bytes(&short);
+    let expected = replay(&bytes);
+    let reply = run_other(path, bytes.clone(), expected.len(), SCRIPT_PATIENCE)?;
+    say(title);
+    say(&format!("  script:\n{}", shown_lines(&bytes)));
+    say(&format!("  second writes:\n{}", shown_lines(&expected)));
+    say(&format!("  {path} writes:\n{}", shown_lines(&reply.output)));
+    if !reply.remark.is_empty() {
+        say(&format!("  {path} {}", reply.remark));
+    }
+    let line = first_differing_line(&expected, &reply.output);
+    say(&format!("  first differing line: {line}"));
+    Ok(())
+}
+
+/// Plays one batch on the other program. Gives how many episodes were played up to and with
+/// the first that differs, and whether one did.
+fn play_batch(options: &Options, from: u64, to: u64) -> std::io::Result<(u64, bool)> {
+    let batch = make_batch(options.seed, from, to);
+    let lines = batch.episodes.concat();
+    let script = script_bytes(&lines);
+    let reply = run_other(&options.ours, script, batch.output.len(), BATCH_PATIENCE)?;
+    let Some(index) = first_difference(&batch, &reply) else {
+        return Ok((to - from, false));
+    };
+    let number = from + index as u64;
+    let title = format!("difference in episode {number} of seed {}", options.seed);
+    let script = isolate(&options.ours, &batch, index)?;
+    report(&options.ours, script, &title)?;
+    Ok((index as u64 + 1, true))
+}
+
+/// Plays all episodes. Gives how many were played and how many differed.
+pub fn differ(options: &Options) -> std::io::Result<(u64, u64)> {
+    let start = Instant::now();
+    let (mut done, mut differences) = (0, 0);
+    while done < options.episodes && differences < MOST_DIFFERENCES {
+        let late = |seconds| start.elapsed() >= Duration::from_secs(seconds);
+        if options.seconds.is_some_and(late) {
+            break;
+        }
+        let to = (done + BATCH).min(options.episodes);
+        let (played, differed) = play_batch(options, done, to)?;
+        done += played;
+        differences += u64::from(differed);
+    }
+    Ok((done, differences))
+}
+
+#[cfg(test)]
+mod tests {
+    use super::*;
+
+    /// Output without its bad lines, whose numbers depend on what stands before.
+    fn without_bad_lines(output: &[u8]) -> Script {
+        let lines = output.split(|&byte| byte == b'\n').map(<[u8]>::to_vec);
+        lines.filter(|line| !line.starts_with(b"bad")).collect()
+    }
+
+    #[test]
+    fn episodes_are_independent() {
+        let batch = make_batch(42, 0, 300);
+        let mut start = 0;
+        for (episode, &end) in batch.episodes.iter().zip(&batch.ends) {
+            let alone = replay(&script_bytes(episode));
+            let in_batch = &batch.output[start..end];
+            assert!(without_bad_lines(&alone) == without_bad_lines(in_batch));
+            start = end;
+        }
+    }
+
+    #[test]
+    fn the_first_difference_is_found() {
+        let batch = make_batch(42, 0, 20);
+        let same = Reply {
+            output: batch.output.clone(),
+            remark: String::new(),
+        };
+        assert_eq!(first_difference(&batch, &same), None);
+        let mut other = same;
+        other.output[batch.ends[7]] ^= 1;
+        let found = first_difference(&batch, &other);
+        assert!(found.is_some_and(|index| batch.ends[index] > batch.ends[7]));
+    }
+}

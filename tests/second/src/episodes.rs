@@ -1,0 +1,425 @@
+//! Random episodes as scripts of replay.md: a scene that sets everything, then calls with their
+//! rows, changes of the scene, bad lines and dumps.
+
+use crate::book::{record_and_book_fit, Book, File, Position, Rights};
+use crate::random::Random;
+use crate::replay::{call_name, write_hex, write_position, Call, Player};
+use crate::scenes::{good_scene, Hints, Scene, Style, LARGE};
+use crate::scenes::{hints_of, random_call, random_row, random_scene, random_target, random_text};
+
+/// A script, line by line, without the line feeds.
+pub type Script = Vec<Vec<u8>>;
+
+/// Lines that replay.md calls bad, and some that do nothing, with bars between them.
+const ODD_LINES: &str = "\
+    newline | newline|newlines|Newline|newline\r|new line|putc|putc 6|putc 6g|putc 616|\
+    putc -|putc 61 61|puts|puts 6|puts 61 61|puts --|puts -61|puts 6 1|puts  61|puti|\
+    puti +5|puti  5|puti 5 |puti -|puti --5|puti 5-|puti 2147483648|puti -2147483649|\
+    puti 99999999999999999999999|puti 0x5|puti 1e3|puti 1.0|set 1 2|set 1 2 3 4|\
+    set 1 2 65536|set -1 1 1|set 1,1,1|set|setc|setc 65536|setc -1|setc +1|gets|gets 3|\
+    gets 4097 -|gets 3 6|gets - -|gets -1 -|getc 1|geti 1|view 1 1|view 1 1 g0|\
+    view 65536 1 -|view 1 1 - -|whole 1 32768 4|whole 1 -32769 4|whole 1 2|\
+    whole 1 2 4097|whole 2147483648 0 20|whole 1 +2 4|row 0000000|row 000000000|\
+    row 0000000g|row |row 20000000 |row  20000000|row -|record 2 0 0 1 1 1|\
+    record 1 0 0 1 1|record 1 0 0 1 1 65536|rights|rights gg|rights gpx|rights G|\
+    rights g-|rights g p|lend 70001 6 2|lend 48 1101 2|lend 48 6 301|lend 48 6|\
+    shape 1 1|shape 65536 1 1|shape -1 1 1|end 1 1|end 1 1 65536|fill 6|fill 616|fill -|\
+    text 65536 61|text 0|lines 1100 00|pages 300 00|dump 1||#|# puts 61";
+
+/// The rights as a word of a script, beginning with any of its letters.
+pub fn write_rights(rights: Rights, turn: usize) -> String {
+    let letters = [
+        ('g', rights.get),
+        ('p', rights.put),
+        ('s', rights.set),
+        ('r', rights.reset),
+        ('c', rights.compress),
+    ];
+    let has = letters.iter().filter(|(_, right)| *right);
+    let mut word: Vec<char> = has.map(|(letter, _)| *letter).collect();
+    if word.is_empty() {
+        return "-".to_string();
+    }
+    let turn = turn % word.len();
+    word.rotate_left(turn);
+    word.into_iter().collect()
+}
+
+/// A call as a line of a script.
+pub fn write_call(call: &Call) -> String {
+    let name = call_name(call);
+    match call {
+        Call::PutCharacter(byte) => format!("{name} {byte:02x}"),
+        Call::PutString(text) => format!("{name} {}", write_hex(text)),
+        Call::PutInteger(value) => format!("{name} {value}"),
+        Call::GetString(size, terminators) => format!("{name} {size} {}", write_hex(terminators)),
+        Call::Set(target) => format!("{name} {}", write_position(*target)),
+        Call::SetCharNumber(number) => format!("{name} {number}"),
+        Call::View(page, line, marker) => format!("{name} {page} {line} {}", write_hex(marker)),
+        Call::Whole(value, width, size) => format!("{name} {value} {width} {size}"),
+        _ => name.to_string(),
+    }
+}
+
+/// A record's line.
+fn write_record(opened: bool, read_mood: bool, write_mood: bool, position: Position) -> String {
+    format!(
+        "record {} {} {} {}",
+        u8::from(opened),
+        u8::from(read_mood),
+        u8::from(write_mood),
+        write_position(position)
+    )
+}
+
+/// A row's line.
+fn write_row(row: &[u32]) -> String {
+    let words: Vec<String> = row.iter().map(|word| format!(" {word:08x}")).collect();
+    format!("row{}", words.concat())
+}
+
+/// An episode being made: every line is played as it is added, so that the next can be chosen
+/// by where the record stands.
+struct Maker<'m> {
+    random: Random,
+    player: &'m mut Player,
+    output: &'m mut Vec<u8>,
+    lines: Script,
+    style: Style,
+    covered: (usize, usize),
+}
+
+/// Makes an episode, playing it on the given player.
+pub fn make_episode(random: Random, player: &mut Player, output: &mut Vec<u8>) -> Script {
+    let mut maker = Maker {
+        random,
+        player,
+        output,
+        lines: Vec::new(),
+        style: Style::Letters,
+        covered: (0, 0),
+    };
+    let scene = random_scene(&mut maker.random);
+    maker.set_scene(&scene);
+    let calls = match maker.random.below(3) {
+        0 => maker.random.between(1, 5),
+        1 => maker.random.between(3, 12),
+        _ => maker.random.between(10, 25),
+    };
+    for _ in 0..calls {
+        if !maker.fits() && maker.random.chance(25) {
+            let scene = good_scene(&mut maker.random);
+            maker.set_scene(&scene);
+        }
+        maker.add_slot();
+    }
+    if maker.random.chance(if maker.is_large() { 35 } else { 88 }) {
+        maker.add("dump");
+    }
+    maker.lines
+}
+
+impl Maker<'_> {
+    fn add(&mut self, line: impl AsRef<[u8]>) {
+        let mut line = line.as_ref().to_vec();
+        line.retain(|&byte| byte != b'\n');
+        self.player.play_line(&line, self.output);
+        self.lines.push(line);
+    }
+
+    fn is_large(&self) -> bool {
+        self.player.lent.0 > LARGE
+    }
+
+    /// Everything that a script can set, so that nothing comes from the episode before.
+    fn set_scene(&mut self, scene: &Scene) {
+        self.style = scene.style;
+        let file = &scene.file;
+        let shape = file.shape;
+        let (text, lines, pages) = scene.lent;
+        let turn = self.random.below(5);
+        self.covered = (scene.line_lengths.len(), scene.page_lengths.len());
+        self.add("row");
+        self.add(format!(
+            "shape {} {} {}",
+            shape.pages, shape.lines, shape.characters
+        ));
+        self.add(format!("lend {text} {lines} {pages}"));
+        self.add(format!("rights {}", write_rights(file.rights, turn)));
+        self.add(format!("fill {:02x}", scene.fill));
+        self.add(format!("lines 0 {}", write_hex(&scene.line_lengths)));
+        self.add(format!("pages 0 {}", write_hex(&scene.page_lengths)));
+        self.add_text(scene);
+        self.add(format!("end {}", write_position(scene.logical_end)));
+        self.add(write_record(
+            file.opened,
+            file.read_mood,
+            file.write_mood,
+            file.position,
+        ));
+        if self.random.chance(45) {
+            let start = self.random.pick(["establish", "open", "reset", "open"]);
+            self.add(start);
+        }
+    }
+
+    /// The text of a scene; of a large book most often a few parts.
+    fn add_text(&mut self, scene: &Scene) {
+        if scene.text.len() <= LARGE || self.random.chance(10) {
+            self.add(format!("text 0 {}", write_hex(&scene.text)));
+            return;
+        }
+        for _ in 0..4 {
+            let start = self.random.below(scene.text.len());
+            let start = self.random.pick([0, start, start]).min(65_535);
+            let part: Vec<u8> = scene.text.iter().skip(start).take(300).copied().collect();
+            self.add(format!("text {start} {}", write_hex(&part)));
+        }
+    }
+
+    /// Lends the record and the book for a question.
+    fn asked<T>(&mut self, question: impl FnOnce(&File, &Book) -> T) -> T {
+        let (text, lines, pages) = self.player.lent;
+        let book = Book {
+            text: self.player.text.get_mut(..text).unwrap_or_default(),
+            line_lengths: self
+                .player
+                .line_lengths
+                .get_mut(..lines)
+                .unwrap_or_default(),
+            page_lengths: self
+                .player
+                .page_lengths
+                .get_mut(..pages)
+                .unwrap_or_default(),
+            logical_end: self.player.logical_end,
+        };
+        question(&self.player.file, &book)
+    }
+
+    /// Whether refusal 3 has nothing against the record and the book just now.
+    fn fits(&mut self) -> bool {
+        self.asked(record_and_book_fit)
+    }
+
+    /// What is known about the record and the book just now.
+    fn hints(&mut self) -> Hints {
+        let style = self.style;
+        self.asked(|file, book| hints_of(file, book, style))
+    }
+
+    /// A call that crosses the logical end, from a record made for it: set char number while
+    /// reading, or set with no mood, with answers to the event.
+    fn add_crossing(&mut self) {
+        let hints = self.hints();
+        let end = hints.end;
+        let place = Position {
+            character: self.random.between(1, end.character),
+            ..end
+        };
+        let row = random_row(&mut self.random, &hints);
+        let line = if hints.file.rights.get && self.random.chance(60) {
+            self.add(write_record(true, true, false, place));
+            format!("setc {}", end.character + self.random.between(1, 2))
+        } else {
+            self.add(write_record(true, false, false, place));
+            let past = Position {
+                character: end.character + 1,
+                ..end
+            };
+            format!("set {}", write_position(past))
+        };
+        self.add_varied(write_row(&row));
+        self.add(line);
+    }
+
+    /// One call, and what may stand before and after it.
+    fn add_slot(&mut self) {
+        if self.random.chance(4) {
+            self.add_change();
+        }
+        if !self.player.file.opened && self.random.chance(15) {
+            let file = self.player.file;
+            self.add(write_record(
+                true,
+                file.read_mood,
+                file.write_mood,
+                file.position,
+            ));
+        }
+        if self.random.chance(4) {
+            self.add_odd_line();
+        }
+        if self.random.chance(4) {
+            self.add_crossing();
+        }
+        if self.random.rarely(1) && self.random.chance(30) {
+            self.add_long_line();
+        }
+        let hints = self.hints();
+        if self.random.chance(45) {
+            let row = random_row(&mut self.random, &hints);
+            self.add_varied(write_row(&row));
+        }
+        match self.random.below(120) {
+            0 => self.add("dump"),
+            1 => self.add_change(),
+            _ => (),
+        }
+        let call = random_call(&mut self.random, &hints);
+        self.add_varied(write_call(&call));
+        if !self.is_large() && self.random.chance(12) {
+            self.add("dump");
+        }
+    }
+
+    /// A line as it is, or with upper case hex, or with leading zeros.
+    fn add_varied(&mut self, line: String) {
+        let mut words: Vec<String> = line.split(' ').map(str::to_string).collect();
+        let upper = self.random.rarely(20);
+        let zeros = self.random.rarely(20);
+        let row = words.first().is_some_and(|name| name == "row");
+        for word in words.iter_mut().skip(1) {
+            let digits = word.bytes().all(|byte| byte.is_ascii_digit());
+            if upper {
+                *word = word.to_uppercase();
+            }
+            if zeros && digits && !row {
+                *word = format!("00{word}");
+            }
+        }
+        self.add(words.join(" "));
+    }
+
+    /// A change of the scene in the middle of an episode.
+    fn add_change(&mut self) {
+        let hints = self.hints();
+        let file = hints.file;
+        let shape = file.shape;
+        let place = random_target(&mut self.random, &hints);
+        let random = &mut self.random;
+        let line = match random.below(9) {
+            0 => {
+                let both = random.chance(60);
+                let rights = Rights {
+                    get: both || random.chance(50),
+                    put: both || random.chance(50),
+                    set: random.chance(50),
+                    reset: random.chance(60),
+                    compress: random.chance(50),
+                };
+                format!("rights {}", write_rights(rights, random.below(5)))
+            }
+            1 => write_record(true, file.read_mood, file.write_mood, place),
+            2 => write_record(true, false, false, file.position),
+            3 => {
+                let reads = random.chance(50);
+                write_record(true, reads, !reads, file.position)
+            }
+            4 => format!("end {}", write_position(place)),
+            5 => format!("shape {} {} {}", shape.lines, shape.pages, shape.characters),
+            6 => self.change_of_sizes(),
+            7 => self.change_of_lengths(),
+            _ => self.change_of_text(),
+        };
+        self.add(line);
+    }
+
+    /// Other lent sizes, within what the scene has set.
+    fn change_of_sizes(&mut self) -> String {
+        let (text, lines, pages) = self.player.lent;
+        let random = &mut self.random;
+        let text = (text + random.below(3)).saturating_sub(1).min(70_000);
+        let lines = (lines + random.below(3)).saturating_sub(1);
+        let pages = (pages + random.below(3)).saturating_sub(1);
+        let lines = lines.min(self.covered.0);
+        let pages = pages.min(self.covered.1);
+        format!("lend {text} {lines} {pages}")
+    }
+
+    /// A few other lengths, some of them too large.
+    fn change_of_lengths(&mut self) -> String {
+        let shape = self.player.file.shape;
+        let of_lines = self.random.chance(60);
+        let (name, room, most) = if of_lines {
+            ("lines", self.covered.0, shape.characters)
+        } else {
+            ("pages", self.covered.1, shape.lines)
+        };
+        let index = self.random.below(room);
+        let count = 1 + self.random.below(3);
+        let mut lengths = Vec::new();
+        for _ in 0..count.min(room - index.min(room)) {
+            let above = u32::from(self.random.chance(10));
+            let length = self.random.between(0, most + above);
+            lengths.push(u8::try_from(length).unwrap_or(u8::MAX));
+        }
+        format!("{name} {index} {}", write_hex(&lengths))
+    }
+
+    /// A few other characters, or all of them.
+    fn change_of_text(&mut self) -> String {
+        if self.random.chance(15) {
+            return format!("fill {:02x}", self.random.byte());
+        }
+        let length = 1 + self.random.below(30);
+        let text = random_text(&mut self.random, self.style, length);
+        let index = self.random.below(self.player.lent.0).min(65_535);
+        format!("text {index} {}", write_hex(&text))
+    }
+
+    /// A line that is bad, or does nothing, or is some call's with a byte changed.
+    fn add_odd_line(&mut self) {
+        let hints = self.hints();
+        let random = &mut self.random;
+        let line = match random.below(10) {
+            0..=6 => {
+                let lines: Vec<&str> = ODD_LINES.split('|').collect();
+                lines[random.below(lines.len())].as_bytes().to_vec()
+            }
+            7 => {
+                let length = random.below(20);
+                let mut line = random_text(random, Style::Anything, length);
+                line.insert(0, random.byte());
+                line
+            }
+            8 if random.chance(20) => write_row(&[0x1000_0000; 81]).into_bytes(),
+            _ => {
+                let call = random_call(random, &hints);
+                damaged(random, write_call(&call).into_bytes())
+            }
+        };
+        self.add(line);
+    }
+
+    /// A line about as long as a line may be.
+    fn add_long_line(&mut self) {
+        let line = match self.random.below(9) {
+            0 => format!("#{}", "x".repeat(139_999)),
+            1 => format!("#{}", "x".repeat(140_000)),
+            2 => format!("puts {}", "61".repeat(69_997)),
+            3 => format!("puts {}", "61".repeat(69_998)),
+            4 => format!("text 00 {}", "62".repeat(69_996)),
+            5 => format!("newline{}", " ".repeat(139_994)),
+            6 => format!("text 65535 {}", "64".repeat(4_465)),
+            7 => format!("text 65535 {}", "65".repeat(4_466)),
+            _ => format!("text 0 {}", "63".repeat(150_000)),
+        };
+        self.add(line);
+    }
+}
+
+/// A line with one byte put in, taken out, changed or doubled.
+fn damaged(random: &mut Random, mut line: Vec<u8>) -> Vec<u8> {
+    let index = random.below(line.len());
+    let letter = random.pick([b' ', b'-', b'0', b'g', b'\r', b'\t', 0, 0xff]);
+    match random.below(4) {
+        0 => line.insert(index, letter),
+        1 => {
+            line.remove(index);
+        }
+        2 => line[index] = letter,
+        _ => line.push(letter),
+    }
+    line
+}
