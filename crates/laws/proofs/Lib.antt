@@ -6,3 +6,4 @@ pub mod Unfolding
 pub mod Entry
 pub mod Ways
 pub mod Cases
+pub mod Lines

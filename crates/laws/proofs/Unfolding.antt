@@ -12,7 +12,7 @@ use Rattle.rules.specs.declared.Position.{Position}
 use Rattle.rules.specs.declared.Run.{Run}
 use Rattle.rules.specs.declared.Ending.{Ending}
 use Rattle.rules.specs.Book.{choose, before, within, nextCharacter, nextLine, nextPage, inBounds, pageLength, State, onRun, here, endOf, shapeOf, rightsOf, lineHere, movedTo, Event, logicalEnd, physicalEnd, pageEnd, lineEnd, Mending, Answer, isFalse, isTrue, suggested}
-use Rattle.rules.specs.Step.{Step, _>>=_, refusal, stopped, branch, test, fileEnded, pageEnded, lineEnded, onEndPage, onEndLine, store}
+use Rattle.rules.specs.Step.{Step, _>>=_, refuse, refusal, stopped, branch, test, fileEnded, pageEnded, lineEnded, onEndPage, onEndLine, store}
 use Rattle.rules.specs.Steps.{Action, Gives, goodFile, goodPage, goodLine, atPageEnd, atLineEnd, newline, newpage, setTo, perform, answered, putCharacter, roomFor, passBlanks, moreDigits, setCharacterNumber, printable, digit, fitsHere, isStop, fileEnd, signals, signalWhile, goodFileBody, goodPageBody, atPageEndBody, goodLineBody, atLineEndBody, newlineBody, newpageBody, setToBody, performBody, answeredBody, characterEvent, putCharacterBody, roomForBody, passBlanksBody, moreDigitsBody, spaceStep, setCharacterNumberBody, body, rank, spentBy, stage, measure, bounded, execute}
 use Rattle.laws.proofs.Order.{is-yes}
 use Rattle.laws.proofs.Validity.{Valid, Near, near-at, near-end, near-in, rules-moved, before-false, moveTo, toEnd, end-valid, end-further, writing-within, same-line, next-line-valid, next-page-valid, pass-valid, in-bounds}
@@ -24,6 +24,12 @@ pub record On (row : List ℕ) (b u : State) : Type 0 where
   pub valid : Valid u
   pub took : u .run .taken ≤ length row
   pub gain : Gain 15 (b .run) (u .run)
+
+-- a state further on by one place
+pub record Next (row : List ℕ) (s u : State) : Type 0 where
+  pub valid : Valid u
+  pub took : u .run .taken ≤ length row
+  pub gain : Gain 16 (s .run) (u .run)
 
 true-not : {a : Answer} (m : Mending) → a ≡ isTrue m → a ≡ isFalse → ⊥
 true-not m p q = let o : _≡_ {A = ℕ} 0 1 = cc in omega arith
@@ -274,17 +280,11 @@ module _ (row : List ℕ) (f g : (action : Action) → Step (Gives action)) wher
       (at-later ag m (moreDigits (n * 10 + (c - 48))) (moveTo (nextCharacter (here b)) b) t (passed b (d .valid) (d .claim .1 .0 .0) (d .claim .1 .1)) (d .took) (gain-less (omega arith) (pass-gain b))))
       (λ _. at-pure _ n (record { valid = d .valid; took = d .took; claim = gain-answered s b (d .valid) (m .gain) }))
 
-  -- a state further on by one place
-  record Next (s u : State) : Type 0 where
-    valid : Valid u
-    took : u .run .taken ≤ length row
-    gain : Gain 16 (s .run) (u .run)
-
   module _ {self : Action} {s : State} (ag : Agree (measure row self s)) (rd : Ready row self s) (h : 7 < stage self) where
-    space-end : (t : List ℕ) (b : State) → Done row (goodLine false false) s b → At (Ended row self s) (λ _ u. Next s u) (store 32) (store 32) b t
+    space-end : (t : List ℕ) (b : State) → Done row (goodLine false false) s b → At (Ended row self s) (λ _ u. Next row s u) (store 32) (store 32) b t
     space-end t b d = at-weak (λ e u y. y) (λ _ u x. record { valid = x .valid; took = omega (arith, x .taken, d .took); gain = gain-trans (d .claim .0) (x .gain) }) (at-store 32 b t (d .valid) (d .claim .1 .1))
 
-    at-space : (r : Bool) (t : List ℕ) → At (Ended row self s) (λ _ u. Next s u) (spaceStep row f r) (spaceStep row g r) s t
+    at-space : (r : Bool) (t : List ℕ) → At (Ended row self s) (λ _ u. Next row s u) (spaceStep row f r) (spaceStep row g r) s t
     unfolding spaceStep
     at-space true t =
         at-bind (at-lower ag (from-start rd) (goodLine true false) t h) λ _ b t d.
@@ -351,3 +351,17 @@ unfold-execute row action s t rd = body-step row (bounded row (measure row actio
 pub execute-post : (row : List ℕ) (action : Action) (s : State) (t : List ℕ) → Ready row action s → Post (Ended row action s) (λ _ u. Done row action s u) (execute row action s t)
 unfolding execute
 execute-post row action s t rd = enough row (suc (measure row action s)) (suc (measure row action s)) action s t rd (omega arith) (omega arith) .post
+
+-- the same of the steps over `execute` that are no actions
+execute-agree : (row : List ℕ) (bound : ℕ) → Agree row (execute row) (execute row) bound
+execute-agree row bound action s t rd h = record { same = refl; post = execute-post row action s t rd }
+
+pub space-post : (row : List ℕ) (self : Action) (r : Bool) (s : State) (t : List ℕ) → Ready row self s → 7 < stage self → Post (Ended row self s) (λ _ u. Next row s u) (spaceStep row (execute row) r s t)
+space-post row self r s t rd h = at-space row (execute row) (execute row) (execute-agree row (measure row self s)) rd h r t .post
+
+pub event-post : (row : List ℕ) (self : Action) (r : Bool) (c : ℕ) (s : State) (t : List ℕ) → Ready row self s → 1 ≤ stage self → Post (Ended row self s) (λ _ u. On row s u) (characterEvent row (execute row) r c s t)
+event-post row self r c s t rd h = at-characterEvent row (execute row) (execute row) (execute-agree row (measure row self s)) (from-start rd) r c t h .post
+
+pub signals-post : (row : List ℕ) (self : Action) (event : Event) (r : Bool) (n : ℕ) (s : State) (t : List ℕ) → Ready row self s → 1 ≤ stage self → n ≤ 12
+    → Post (Ended row self s) (λ _ u. On row s u) (signals row (execute row) event r (refuse n) s t)
+signals-post row self event r n s t rd h k = let ag = execute-agree row (measure row self s) in at-signals row (execute row) (execute row) ag (from-start rd) event r t h (at-halt (refusal n) (heard-end row (execute row) (execute row) ag (from-start rd) (refusal n) k h)) .post

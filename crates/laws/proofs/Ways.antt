@@ -30,6 +30,11 @@ pub bind-ends : {A B : Type 0} (f : Step A) (k : A → Step B) (s : State) (t : 
 unfolding _>>=_
 bind-ends f k s t h = ap (andThen k) h
 
+-- steps that do the same do the same in front of a further one
+pub same-then : {A B : Type 0} (f g : Step A) (k : A → Step B) (s : State) (t : List ℕ) → f s t ≡ g s t → (f >>= k) s t ≡ (g >>= k) s t
+unfolding _>>=_
+same-then f g k s t h = ap (andThen k) h
+
 pub attempt-done : {A B : Type 0} (f : Step A) (h : Ending → Step B) (g : A → Step B) (s : State) (t : List ℕ) {a : A} {u : State} {t′ : List ℕ} → f s t ≡ done a u t′ → attempt f h g s t ≡ g a u t′
 unfolding attempt
 attempt-done f h g s t e = ap (caught h g) e

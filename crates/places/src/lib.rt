@@ -7,6 +7,7 @@ ghost use Prim.Native.Nat.{_≤_, _<_, _^_};
 ghost use Rattle.rules.specs.Book.{place, before, lengths, pageLength, lineIndex, lineLength, characterIndex, inBounds, state};
 ghost use Rattle.rules.specs.Step.{fileEnded, pageEnded, lineEnded, onEndLine};
 ghost use Rattle.places.specs.Small.{Small};
+ghost use Rattle.places.specs.Good.{lineGood};
 
 // Whether x stands before y.
 pub fn is_before(x: Position, y: Position) -> bool
@@ -106,6 +107,21 @@ pub fn line_ended(run: Run, lines: &[u8], pages: &[u8]) -> bool
         run.file.position.line,
     )
         < run.file.position.character
+}
+
+// Whether the position is in a good line: none of the three tests is met.
+pub fn line_good(run: Run, reading: bool, lines: &[u8], pages: &[u8]) -> bool
+    requires { ⌜ Small (run .file .shape) (run .file .position .page) (run .file .position .line) ⌝ }
+    ensures { λ r. ⌜ r ≡ lineGood reading (state run (now (lines .entry)) (now (pages .entry))) ⌝ }
+{
+    if file_ended(run, reading) {
+        return false;
+    }
+    if page_ended(run, pages) {
+        return false;
+    }
+    let ended = line_ended(run, lines, pages);
+    !ended
 }
 
 // Where a character stands in the text.

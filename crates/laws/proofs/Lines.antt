@@ -1,0 +1,224 @@
+-- The laws of good line, put of a character, space and set char number in the shape in which code meets them. Assumes nothing.
+use Prim.Native.Nat.{ℕ, zero, suc, _+_, _-_, _<_, _≤_}
+use native.Mathlib.Omega.{arith}
+use native.Mathlib.Numerals.{add-one}
+use mathlib.Core.Path.{_≡_, refl, sym, ap, subst, _∙_}
+use mathlib.Core.List.{List}
+use mathlib.Core.Bool.{Bool, true, false, not, _||_}
+use lib.Dec.{ltb, eqb, leb}
+use lib.ListN.{length, set}
+use borrow.Author.Tests.{eq-eqb, ne-eqb, lt-ltb, le-ltb, eqb-true, eqb-false}
+use Rattle.rules.specs.declared.Position.{Position}
+use Rattle.rules.specs.declared.Run.{Run}
+use Rattle.rules.specs.declared.Ending.{Ending}
+use Rattle.rules.specs.declared.Outcome.{Outcome}
+use Rattle.rules.specs.Book.{choose, place, before, within, nextCharacter, previousCharacter, characterIndex, State, state, onRun, here, endOf, shapeOf, rightsOf, lineHere, withEnd, movedTo, mendingOf, suggested, Event, lineEnd, Answer}
+use Rattle.rules.specs.Step.{Out, done, ends, Step, _>>=_, pure, halt, refuse, refuseAt, refusal, stopped, look, change, branch, test, need, outcome, doneBy, refusedBy, stoppedBy, fileEnded, pageEnded, lineEnded, pass, signal, store, endAfter, backspace}
+use Rattle.rules.specs.Steps.{Action, goodFile, goodPage, goodLine, atLineEnd, newline, answered, putCharacter, setCharacterNumber, printable, backspaces, signals, signalWhile, upon, goodLineBody, atLineEndBody, characterEvent, putCharacterBody, spaceStep, setCharacterNumberBody, body, stage, measure, execute}
+use Rattle.laws.specs.Follow.{followed}
+use Rattle.laws.specs.Runs.{onBy, storedBy}
+use Rattle.laws.proofs.Validity.{Valid, Near, near-at}
+use Rattle.laws.proofs.Progress.{Gain, Ready, FileGood, PageGood, LineGood, Done, Site, site-lower, gain-less, gain-trans, From, from-start, from-gain, from-trans, heard, answer}
+use Rattle.laws.proofs.Walk.{Closed, at-store, post-done}
+use Rattle.laws.proofs.Unfolding.{On, unfold-execute, space-post}
+use Rattle.laws.proofs.Ways.{bind-done, bind-ends, same-then, branch-true, branch-false, test-true, test-false, need-true, need-false, look-then, signal-then, outcomeAt, outcome-is, post-done-of, done-of, Asked, is-false, is-jump, is-true, after-event, from-lower, from-default, on-default, from-answer, on-answer, from-later, signals-default, signals-followed, followed-done, followed-on, while-stays}
+use Rattle.laws.proofs.Cases.{law-goodPage, held-stays, goodFile-stays, back-done}
+
+-- ---- good line, and the event at a line's end
+
+module _ (row : List ℕ) (r w : Bool) (s : State) (t : List ℕ) (rd : Ready row (goodLine r w) s) where
+  pub law-goodLine : execute row (goodLine r w) s t ≡ (execute row (goodPage r w) >>= λ _. signalWhile lineEnded (execute row (atLineEnd r w)) (execute row (goodLine r w))) s t
+  unfolding body goodLineBody
+  law-goodLine = unfold-execute row (goodLine r w) s t rd
+
+  pub goodLine-page : Ready row (goodPage r w) s
+  goodLine-page = site-lower row (goodLine r w) s rd (goodPage r w) (omega arith) .0
+
+  module _ {b : State} {t₁ : List ℕ} (f : execute row (goodPage r w) s t ≡ done tt b t₁) where
+    pub goodLine-from : From row (goodLine r w) s b
+    goodLine-from = let d = done-of row (goodPage r w) t goodLine-page f in from-gain b rd (d .valid) (d .took) (d .claim .0)
+
+    pub goodLine-on : {v : State} {t′ : List ℕ} → execute row (atLineEnd r w) b t₁ ≡ done tt v t′ → On row b v
+    goodLine-on h = let d = done-of row (atLineEnd r w) t₁ (from-lower goodLine-from (atLineEnd r w) (omega arith) .0) h in record { valid = d .valid; took = d .took; gain = d .claim }
+
+  -- where all three tests are passed at once
+  pub goodLine-at-once : LineGood r s → execute row (goodLine r w) s t ≡ done tt s t
+  goodLine-at-once g =
+      let rp = goodLine-page in
+      let rf = site-lower row (goodPage r w) s rp (goodFile r w) (omega arith) .0 in
+      let f : execute row (goodFile r w) s t ≡ done tt s t = sym (goodFile-stays row r w s t rf {x = doneBy (s .run)} (g .0 .0) refl) in
+      let p : execute row (goodPage r w) s t ≡ done tt s t = held-stays _ _ _ _ s t (law-goodPage row r w s t rp) f (g .0 .1) in
+      held-stays _ _ _ _ s t law-goodLine p (g .1)
+
+  pub goodLine-quick : LineGood r s → {x : Outcome} → x ≡ doneBy (s .run) → outcomeAt x s t ≡ execute row (goodLine r w) s t
+  goodLine-quick g h = outcome-is s t h ∙ sym (goodLine-at-once g)
+
+module _ (row : List ℕ) (r w : Bool) (s : State) (t : List ℕ) (rd : Ready row (atLineEnd r w) s) {c k : ℕ} {u : Run} (q : Asked row s c k u) where
+  law-lineEnd : execute row (atLineEnd r w) s t ≡ signals row (execute row) lineEnd r (branch w (halt (stopped 2)) (execute row (newline r))) s t
+  unfolding body atLineEndBody
+  law-lineEnd = unfold-execute row (atLineEnd r w) s t rd
+
+  pub lineEnd-stops : k ≡ 0 → w ≡ true → {x : Outcome} → x ≡ stoppedBy u 2 → outcomeAt x s t ≡ execute row (atLineEnd r w) s t
+  unfolding halt
+  lineEnd-stops z y h = outcome-is s t h ∙ sym (law-lineEnd ∙ signals-default row lineEnd r _ t q z ∙ branch-true _ _ (onRun s u) t y)
+
+  pub lineEnd-default : k ≡ 0 → w ≡ false → {z : Out (Unit {0})} → z ≡ execute row (newline r) (onRun s u) t → z ≡ execute row (atLineEnd r w) s t
+  lineEnd-default y e g = g ∙ sym (law-lineEnd ∙ signals-default row lineEnd r _ t q y ∙ branch-false _ _ (onRun s u) t e)
+
+  pub lineEnd-follows : (k ≡ 0 → ⊥) → {z : Out (Unit {0})} → z ≡ followed row r c (onRun s u) t → z ≡ execute row (atLineEnd r w) s t
+  lineEnd-follows y g = g ∙ sym (law-lineEnd ∙ signals-followed row lineEnd r _ t q y)
+
+-- ---- a character event at b
+
+module _ (row : List ℕ) (r : Bool) (c : ℕ) {b : State} (t : List ℕ) {w k : ℕ} {u : Run} (q : Asked row b w k u) where
+  answered-by : (a : Answer) → answer row b ≡ a → characterEvent row (execute row) r c b t
+      ≡ upon Event.character a (λ m. execute row (answered r m) >>= λ _. pure (suggested m c)) (refuseAt Event.character 8) (onRun b u) t
+  unfolding characterEvent
+  answered-by a e = signal-then Event.character row _ b t ∙ ap (λ (a : Answer). upon Event.character a (λ m. execute row (answered r m) >>= λ _. pure (suggested m c)) (refuseAt Event.character 8) (heard row b) t) e
+      ∙ ap (λ (z : State). upon Event.character a (λ m. execute row (answered r m) >>= λ _. pure (suggested m c)) (refuseAt Event.character 8) z t) (sym (after-event q))
+
+  pub event-refused : k ≡ 0 → characterEvent row (execute row) r c b t ≡ ends (refusal 8) (onRun b u) t
+  unfolding halt
+  event-refused z = answered-by _ (is-false q z)
+
+  -- what follows the answer, followed by the suggestion
+  law-event : (k ≡ 0 → ⊥) → characterEvent row (execute row) r c b t ≡ (followed row r w >>= λ _. pure (suggested (mendingOf w) c)) (onRun b u) t
+  unfolding halt
+  law-event z = by (eqb k 8) refl
+    where
+      by : (v : Bool) → eqb k 8 ≡ v → characterEvent row (execute row) r c b t ≡ (followed row r w >>= λ _. pure (suggested (mendingOf w) c)) (onRun b u) t
+      by true e = answered-by _ (is-jump q (eqb-true k 8 e)) ∙ sym (bind-ends _ _ (onRun b u) t (branch-true _ _ (onRun b u) t (ap (λ (n : ℕ). eqb n 8) (sym (q .kind)) ∙ e)))
+      by false e = answered-by _ (is-true q z (eqb-false k 8 e)) ∙ same-then _ _ _ (onRun b u) t (sym (branch-false _ _ (onRun b u) t (ap (λ (n : ℕ). eqb n 8) (sym (q .kind)) ∙ e)))
+
+  pub event-ends : (k ≡ 0 → ⊥) → {x : Ending} {v : State} {t′ : List ℕ} → followed row r w (onRun b u) t ≡ ends x v t′ → characterEvent row (execute row) r c b t ≡ ends x v t′
+  event-ends z h = law-event z ∙ bind-ends _ _ (onRun b u) t h
+
+  pub event-done : (k ≡ 0 → ⊥) → {v : State} {t′ : List ℕ} → followed row r w (onRun b u) t ≡ done tt v t′ → characterEvent row (execute row) r c b t ≡ done (suggested (mendingOf w) c) v t′
+  unfolding pure
+  event-done z h = law-event z ∙ bind-done _ _ (onRun b u) t h
+
+-- ---- put of a character: b is what good line gave
+
+pub stored-is : (s : State) (t : List ℕ) (c : ℕ) {y : Run} {t′ : List ℕ} → y ≡ storedBy 1 (s .run) → t′ ≡ set t (characterIndex (shapeOf s) (here s)) c → done (tt {0}) (onRun s y) t′ ≡ store c s t
+unfolding store
+stored-is s t c hy ht = rw (hy, ht)
+
+-- a state that the code's loop has come to, with the character that is now tried
+pub record Trying (row : List ℕ) (c₀ : ℕ) (s₀ : State) (t₀ : List ℕ) (c : ℕ) (s : State) (t : List ℕ) : Type 0 where
+  pub ready : Ready row (putCharacter c) s
+  pub same : execute row (putCharacter c₀) s₀ t₀ ≡ execute row (putCharacter c) s t
+
+module _ (row : List ℕ) (c : ℕ) (s : State) (t : List ℕ) (rd : Ready row (putCharacter c) s) where
+  law-put : execute row (putCharacter c) s t ≡ putCharacterBody row (execute row) c s t
+  unfolding body
+  law-put = unfold-execute row (putCharacter c) s t rd
+
+  pub put-line : Ready row (goodLine false false) s
+  put-line = site-lower row (putCharacter c) s rd (goodLine false false) (omega arith) .0
+
+  pub put-ends : {x : Ending} {u : State} {t′ : List ℕ} → execute row (goodLine false false) s t ≡ ends x u t′ → execute row (putCharacter c) s t ≡ ends x u t′
+  unfolding putCharacterBody
+  put-ends h = law-put ∙ bind-ends _ _ s t h
+
+  module _ {b : State} {t₁ : List ℕ} (f : execute row (goodLine false false) s t ≡ done tt b t₁) where
+    pub put-done : Done row (goodLine false false) s b
+    put-done = done-of row (goodLine false false) t put-line f
+
+    pub put-from : From row (putCharacter c) s b
+    put-from = from-gain b rd (put-done .valid) (put-done .took) (put-done .claim .0)
+
+    pub put-stores : printable c ≡ true → {y : Run} {t′ : List ℕ} {x : Outcome} → y ≡ storedBy 1 (b .run) → t′ ≡ set t₁ (characterIndex (shapeOf b) (here b)) c → x ≡ doneBy y → outcomeAt x b t′ ≡ execute row (putCharacter c) s t
+    unfolding putCharacterBody
+    put-stores e {y} {t′} hy ht hx = outcome-is b t′ hx ∙ stored-is b t₁ c hy ht ∙ sym (law-put ∙ bind-done _ _ s t f ∙ branch-true _ _ b t₁ e)
+
+    module _ (e : printable c ≡ false) {w k : ℕ} {u : Run} (q : Asked row b w k u) where
+      law-tried : execute row (putCharacter c) s t ≡ (characterEvent row (execute row) false 32 >>= λ c. execute row (putCharacter c)) b t₁
+      unfolding putCharacterBody
+      law-tried = law-put ∙ bind-done _ _ s t f ∙ branch-false _ _ b t₁ e
+
+      pub put-refuses : k ≡ 0 → {x : Outcome} → x ≡ refusedBy u 8 → outcomeAt x b t₁ ≡ execute row (putCharacter c) s t
+      put-refuses z h = outcome-is b t₁ h ∙ sym (law-tried ∙ bind-ends _ _ b t₁ (event-refused row false 32 t₁ q z))
+
+      pub put-event-ends : (k ≡ 0 → ⊥) → {x : Ending} {v : State} {t′ : List ℕ} → followed row false w (onRun b u) t₁ ≡ ends x v t′ → execute row (putCharacter c) s t ≡ ends x v t′
+      put-event-ends z h = law-tried ∙ bind-ends _ _ b t₁ (event-ends row false 32 t₁ q z h)
+
+      put-again : (k ≡ 0 → ⊥) → {v : State} {t′ : List ℕ} → followed row false w (onRun b u) t₁ ≡ done tt v t′ → execute row (putCharacter c) s t ≡ execute row (putCharacter (suggested (mendingOf w) 32)) v t′
+      put-again z h = law-tried ∙ bind-done _ _ b t₁ (event-done row false 32 t₁ q z h)
+
+      put-site : (k ≡ 0 → ⊥) → {v : State} {t′ : List ℕ} → followed row false w (onRun b u) t₁ ≡ done tt v t′ → (c′ : ℕ) → Site row (putCharacter c) s (putCharacter c′) v
+      put-site z {v} h c′ =
+          let x = followed-on put-from q z false t₁ h in
+          let y = from-later put-from (putCharacter c′) v x in y
+
+      -- the next turn of the loop, with the suggestion, and that it is nearer the end
+      pub trying-again : (k ≡ 0 → ⊥) → {v : State} {t′ : List ℕ} → followed row false w (onRun b u) t₁ ≡ done tt v t′ → {c′ : ℕ} → c′ ≡ suggested (mendingOf w) 32
+          → {c₀ : ℕ} {s₀ : State} {t₀ : List ℕ} → Trying row c₀ s₀ t₀ c s t → Trying row c₀ s₀ t₀ c′ v t′
+      trying-again z {v} {t′} h {c′} i m = record { ready = put-site z h c′ .0; same = m .same ∙ put-again z h ∙ ap (λ (x : ℕ). execute row (putCharacter x) v t′) (sym i) }
+
+      pub trying-less : (k ≡ 0 → ⊥) → {v : State} {t′ : List ℕ} → followed row false w (onRun b u) t₁ ≡ done tt v t′ → (c′ : ℕ) → measure row (putCharacter c′) v < measure row (putCharacter c) s
+      trying-less z h c′ = put-site z h c′ .1
+
+-- ---- space: b is what good line gave
+
+module _ (row : List ℕ) (r : Bool) (s : State) (t : List ℕ) where
+  pub space-ends : {x : Ending} {u : State} {t′ : List ℕ} → execute row (goodLine r false) s t ≡ ends x u t′ → spaceStep row (execute row) r s t ≡ ends x u t′
+  unfolding spaceStep
+  space-ends h = bind-ends _ _ s t h
+
+  module _ {b : State} {t₁ : List ℕ} (f : execute row (goodLine r false) s t ≡ done tt b t₁) where
+    pub space-passes : (r || before (here b) (endOf b)) ≡ true → {y : Run} {x : Outcome} → y ≡ movedTo (b .run) (nextCharacter (here b)) → x ≡ doneBy y → outcomeAt x b t₁ ≡ spaceStep row (execute row) r s t
+    unfolding spaceStep change
+    space-passes e i h = outcome-is b t₁ (h ∙ ap doneBy i) ∙ sym (bind-done _ _ s t f ∙ test-true _ _ _ b t₁ e)
+
+    pub space-stores : (r || before (here b) (endOf b)) ≡ false → {y : Run} {t′ : List ℕ} {x : Outcome} → y ≡ storedBy 1 (b .run) → t′ ≡ set t₁ (characterIndex (shapeOf b) (here b)) 32 → x ≡ doneBy y → outcomeAt x b t′ ≡ spaceStep row (execute row) r s t
+    unfolding spaceStep
+    space-stores e {y} {t′} hy ht hx = outcome-is b t′ hx ∙ stored-is b t₁ 32 hy ht ∙ sym (bind-done _ _ s t f ∙ test-false _ _ _ b t₁ e)
+
+-- ---- set char number
+
+backs : (k : ℕ) (s : State) (t : List ℕ) → k < here s .character → backspaces k s t ≡ done tt (onRun s (movedTo (s .run) (place (here s .page) (here s .line) (here s .character - k)))) t
+unfolding backspaces pure
+backs zero s t h = ap (λ (n : ℕ). done tt (onRun s (movedTo (s .run) (place (here s .page) (here s .line) n))) t) (omega arith)
+backs (suc k) s t h =
+    let s′ : State = onRun s (movedTo (s .run) (previousCharacter (here s))) in
+    bind-done _ _ s t (sym (back-done s t (lt-ltb 1 (here s .character) (omega arith)))) ∙ backs k s′ t (omega arith)
+    ∙ ap (λ (n : ℕ). done tt (onRun s (movedTo (s .run) (place (here s .page) (here s .line) n))) t) (omega arith)
+
+module _ (row : List ℕ) (r : Bool) (n : ℕ) (s : State) (t : List ℕ) (rd : Ready row (setCharacterNumber r n) s) where
+  law-number : execute row (setCharacterNumber r n) s t ≡ setCharacterNumberBody row (execute row) r n s t
+  unfolding body
+  law-number = unfold-execute row (setCharacterNumber r n) s t rd
+
+  pub number-stays : here s .character ≡ n → {x : Outcome} → x ≡ doneBy (s .run) → outcomeAt x s t ≡ execute row (setCharacterNumber r n) s t
+  unfolding setCharacterNumberBody pure
+  number-stays e h = outcome-is s t h ∙ sym (law-number ∙ test-true _ _ _ s t (eq-eqb (here s .character) n e))
+
+  module _ (d : here s .character ≡ n → ⊥) where
+    law-moved : execute row (setCharacterNumber r n) s t ≡ (need 6 (λ s. within 1 n (lineHere s + 1)) >>= λ _. test (λ s. ltb (here s .character) n)
+        (spaceStep row (execute row) r >>= λ _. execute row (setCharacterNumber r n)) (look (λ s. here s .character - n) >>= λ k. backspaces k)) s t
+    unfolding setCharacterNumberBody
+    law-moved = law-number ∙ test-false _ _ _ s t (ne-eqb (here s .character) n d)
+
+    pub number-outside : within 1 n (lineHere s + 1) ≡ false → {x : Outcome} → x ≡ refusedBy (s .run) 6 → outcomeAt x s t ≡ execute row (setCharacterNumber r n) s t
+    number-outside e h = outcome-is s t h ∙ sym (law-moved ∙ need-false 6 _ _ s t e)
+
+    module _ (i : within 1 n (lineHere s + 1) ≡ true) where
+      pub number-back : n < here s .character → 1 ≤ n → {y : Run} {x : Outcome} → y ≡ movedTo (s .run) (place (here s .page) (here s .line) n) → x ≡ doneBy y → outcomeAt x s t ≡ execute row (setCharacterNumber r n) s t
+      number-back e o {y} hy h = outcome-is s t (h ∙ ap doneBy hy) ∙ sym (law-moved ∙ need-true 6 _ _ s t i ∙ test-false _ _ _ s t (le-ltb (here s .character) n (omega arith))
+          ∙ look-then _ _ s t ∙ backs (here s .character - n) s t (omega arith) ∙ ap (λ (c : ℕ). done tt (onRun s (movedTo (s .run) (place (here s .page) (here s .line) c))) t) (omega arith))
+
+      module _ (o : here s .character < n) where
+        law-spaced : execute row (setCharacterNumber r n) s t ≡ (spaceStep row (execute row) r >>= λ _. execute row (setCharacterNumber r n)) s t
+        law-spaced = law-moved ∙ need-true 6 _ _ s t i ∙ test-true _ _ _ s t (lt-ltb (here s .character) n o)
+
+        pub number-ends : {x : Ending} {u : State} {t′ : List ℕ} → spaceStep row (execute row) r s t ≡ ends x u t′ → execute row (setCharacterNumber r n) s t ≡ ends x u t′
+        number-ends h = law-spaced ∙ bind-ends _ _ s t h
+
+        pub number-again : {u : State} {t′ : List ℕ} → spaceStep row (execute row) r s t ≡ done tt u t′ → execute row (setCharacterNumber r n) s t ≡ execute row (setCharacterNumber r n) u t′
+        number-again h = law-spaced ∙ bind-done _ _ s t h
+
+  pub number-on : {u : State} {t′ : List ℕ} → spaceStep row (execute row) r s t ≡ done tt u t′ → On row s u
+  number-on h = let x = post-done-of (space-post row (setCharacterNumber r n) r s t rd (omega arith)) h in record { valid = x .valid; took = x .took; gain = gain-less (omega arith) (x .gain) }
+
+  pub number-space : Ready row (goodLine r false) s
+  number-space = site-lower row (setCharacterNumber r n) s rd (goodLine r false) (omega arith) .0

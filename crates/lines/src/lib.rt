@@ -1,0 +1,198 @@
+// Above the event cycle: good line, put of a character, space and set char number.
+use rules::Outcome;
+use rules::Run;
+ghost use mathlib.Core.Path.{_≡_};
+ghost use lib.Dec.{T};
+ghost use mathlib.Core.Bool.{false};
+ghost use Rattle.rules.specs.Book.{state, rowFits};
+ghost use Rattle.rules.specs.Step.{outcome};
+ghost use Rattle.rules.specs.Steps.{Action, printable, spaceStep, execute};
+ghost use Rattle.rules.specs.Ready.{Ready};
+
+// Whether a byte is from 32 to 126.
+pub fn is_printable(b: u8) -> bool
+    ensures { λ r. ⌜ r ≡ printable b ⌝ }
+{
+    if 32 <= b { b <= 126 } else { false }
+}
+
+// Signals line end: its default is newline, or a string's stop 2.
+pub fn line_end(
+    run: Run,
+    reading: bool,
+    string: bool,
+    text: &mut [u8],
+    lines: &mut [u8],
+    pages: &mut [u8],
+    row: &[u32],
+) -> Outcome
+    requires { ⌜ Ready (now row) (Action.atLineEnd reading string) (state run (now lines) (now pages)) ⌝ }
+    ensures { λ r. ⌜ outcome r (now (text .exit)) (now (lines .exit)) (now (pages .exit)) ≡ execute (now (row .entry)) (Action.atLineEnd reading string) (state run (now (lines .entry)) (now (pages .entry))) (now (text .entry)) ⌝ }
+{
+    let word = running::next_word(run, row);
+    let next = running::signalled(run, row);
+    if running::kind_of(word) == 0 {
+        if string {
+            return running::stopped(next, 2);
+        }
+        return events::newline(next, reading, text, lines, pages, row);
+    }
+    events::follow(next, word, reading, text, lines, pages, row)
+}
+
+// "Good line: good page, then signal line end while c exceeds the line length." Most often the line is good at once.
+pub fn good_line(
+    run: Run,
+    reading: bool,
+    string: bool,
+    text: &mut [u8],
+    lines: &mut [u8],
+    pages: &mut [u8],
+    row: &[u32],
+) -> Outcome
+    requires { ⌜ Ready (now row) (Action.goodLine reading string) (state run (now lines) (now pages)) ⌝ }
+    ensures { λ r. ⌜ outcome r (now (text .exit)) (now (lines .exit)) (now (pages .exit)) ≡ execute (now (row .entry)) (Action.goodLine reading string) (state run (now (lines .entry)) (now (pages .entry))) (now (text .entry)) ⌝ }
+{
+    if places::line_good(run, reading, lines, pages) {
+        return running::finish(run);
+    }
+    let mut here = run;
+    loop {
+        let good = events::good_page(here, reading, string, text, lines, pages, row);
+        if !running::goes_on(good) {
+            return good;
+        }
+        if !places::line_ended(good.run, lines, pages) {
+            return good;
+        }
+        let turned = line_end(good.run, reading, string, text, lines, pages, row);
+        if !running::goes_on(turned) {
+            return turned;
+        }
+        here = turned.run;
+    }
+}
+
+// "Put a character: good line; a byte outside 32 to 126 signals character, suggesting a blank .. Store it, c+1."
+pub fn put_character(
+    run: Run,
+    b: u8,
+    text: &mut [u8],
+    lines: &mut [u8],
+    pages: &mut [u8],
+    row: &[u32],
+) -> Outcome
+    requires { ⌜ Ready (now row) (Action.putCharacter b) (state run (now lines) (now pages)) ⌝ }
+    requires { ⌜ T (rowFits (now row)) ⌝ }
+    ensures { λ r. ⌜ outcome r (now (text .exit)) (now (lines .exit)) (now (pages .exit)) ≡ execute (now (row .entry)) (Action.putCharacter b) (state run (now (lines .entry)) (now (pages .entry))) (now (text .entry)) ⌝ }
+{
+    let mut here = run;
+    let mut c = b;
+    loop {
+        let good = good_line(here, false, false, text, lines, pages, row);
+        if !running::goes_on(good) {
+            return good;
+        }
+        let at = good.run;
+        if is_printable(c) {
+            let on = stores::store_character(at, text, c);
+            return running::finish(on);
+        }
+        let word = running::next_word(at, row);
+        let next = running::signalled(at, row);
+        if running::kind_of(word) == 0 {
+            return running::refused(next, 8);
+        }
+        let after = events::follow(next, word, false, text, lines, pages, row);
+        if !running::goes_on(after) {
+            return after;
+        }
+        c = running::suggestion(word, 32);
+        here = after.run;
+    }
+}
+
+// "Space: good line; reading, or writing before the logical end, c+1; writing at it, put a blank."
+pub fn space(
+    run: Run,
+    reading: bool,
+    text: &mut [u8],
+    lines: &mut [u8],
+    pages: &mut [u8],
+    row: &[u32],
+) -> Outcome
+    requires { ⌜ Ready (now row) (Action.goodLine reading false) (state run (now lines) (now pages)) ⌝ }
+    ensures { λ r. ⌜ outcome r (now (text .exit)) (now (lines .exit)) (now (pages .exit)) ≡ spaceStep (now (row .entry)) (execute (now (row .entry))) reading (state run (now (lines .entry)) (now (pages .entry))) (now (text .entry)) ⌝ }
+{
+    let good = good_line(run, reading, false, text, lines, pages, row);
+    if !running::goes_on(good) {
+        return good;
+    }
+    let at = good.run;
+    let position = at.file.position;
+    let end = at.end;
+    if reading {
+        let on = running::moved(
+            at,
+            at.file.position.page,
+            at.file.position.line,
+            at.file.position.character + 1,
+        );
+        return running::finish(on);
+    }
+    if places::is_before(position, end) {
+        let on = running::moved(
+            at,
+            at.file.position.page,
+            at.file.position.line,
+            at.file.position.character + 1,
+        );
+        return running::finish(on);
+    }
+    let stored = stores::store_character(at, text, 32);
+    running::finish(stored)
+}
+
+// "Set char number n: while c is not n: n out of bounds for this line, refusal 6; else space or backspace."
+pub fn set_character_number(
+    run: Run,
+    reading: bool,
+    n: usize,
+    text: &mut [u8],
+    lines: &mut [u8],
+    pages: &mut [u8],
+    row: &[u32],
+) -> Outcome
+    requires { ⌜ Ready (now row) (Action.setCharacterNumber reading n) (state run (now lines) (now pages)) ⌝ }
+    ensures { λ r. ⌜ outcome r (now (text .exit)) (now (lines .exit)) (now (pages .exit)) ≡ execute (now (row .entry)) (Action.setCharacterNumber reading n) (state run (now (lines .entry)) (now (pages .entry))) (now (text .entry)) ⌝ }
+{
+    let mut here = run;
+    loop {
+        let shape = here.file.shape;
+        let size = places::line_length(
+            shape,
+            lines,
+            pages,
+            here.file.position.page,
+            here.file.position.line,
+        );
+        if here.file.position.character == n {
+            return running::finish(here);
+        }
+        if n < 1 {
+            return running::refused(here, 6);
+        }
+        if size + 1 < n {
+            return running::refused(here, 6);
+        }
+        if n < here.file.position.character {
+            let back = running::moved(here, here.file.position.page, here.file.position.line, n);
+            return running::finish(back);
+        }
+        let on = space(here, reading, text, lines, pages, row);
+        if !running::goes_on(on) {
+            return on;
+        }
+        here = on.run;
+    }
+}
