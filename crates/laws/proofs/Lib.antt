@@ -7,3 +7,5 @@ pub mod Entry
 pub mod Ways
 pub mod Cases
 pub mod Lines
+pub mod Runs
+pub mod Strings
