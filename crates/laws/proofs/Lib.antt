@@ -8,4 +8,5 @@ pub mod Ways
 pub mod Cases
 pub mod Lines
 pub mod Runs
-pub mod Strings
+pub mod Puts
+pub mod Gets

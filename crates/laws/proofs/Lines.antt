@@ -13,15 +13,15 @@ use Rattle.rules.specs.declared.Run.{Run}
 use Rattle.rules.specs.declared.Ending.{Ending}
 use Rattle.rules.specs.declared.Outcome.{Outcome}
 use Rattle.rules.specs.Book.{choose, place, before, within, nextCharacter, previousCharacter, characterIndex, State, state, onRun, here, endOf, shapeOf, rightsOf, lineHere, withEnd, movedTo, mendingOf, suggested, Event, lineEnd, Answer}
-use Rattle.rules.specs.Step.{Out, done, ends, Step, _>>=_, pure, halt, refuse, refuseAt, refusal, stopped, look, change, branch, test, need, outcome, doneBy, refusedBy, stoppedBy, fileEnded, pageEnded, lineEnded, pass, signal, store, endAfter, backspace}
+use Rattle.rules.specs.Step.{Out, done, ends, Step, _>>=_, pure, halt, refuse, refuseAt, refusal, stopped, look, change, branch, test, need, outcomeGiving, outcome, doneBy, refusedBy, stoppedBy, fileEnded, pageEnded, lineEnded, pass, signal, store, endAfter, backspace}
 use Rattle.rules.specs.Steps.{Action, goodFile, goodPage, goodLine, atLineEnd, newline, answered, putCharacter, setCharacterNumber, printable, backspaces, signals, signalWhile, upon, goodLineBody, atLineEndBody, characterEvent, putCharacterBody, spaceStep, setCharacterNumberBody, body, stage, measure, execute}
 use Rattle.laws.specs.Follow.{followed}
 use Rattle.laws.specs.Runs.{onBy, storedBy}
 use Rattle.laws.proofs.Validity.{Valid, Near, near-at}
 use Rattle.laws.proofs.Progress.{Gain, Ready, FileGood, PageGood, LineGood, Done, Site, site-lower, gain-less, gain-trans, From, from-start, from-gain, from-trans, heard, answer}
 use Rattle.laws.proofs.Walk.{Closed, at-store, post-done}
-use Rattle.laws.proofs.Unfolding.{On, unfold-execute, space-post}
-use Rattle.laws.proofs.Ways.{bind-done, bind-ends, same-then, branch-true, branch-false, test-true, test-false, need-true, need-false, look-then, signal-then, outcomeAt, outcome-is, post-done-of, done-of, Asked, is-false, is-jump, is-true, after-event, from-lower, from-default, on-default, from-answer, on-answer, from-later, signals-default, signals-followed, followed-done, followed-on, while-stays}
+use Rattle.laws.proofs.Unfolding.{On, unfold-execute, space-post, event-post}
+use Rattle.laws.proofs.Ways.{bind-done, bind-ends, same-then, branch-true, branch-false, test-true, test-false, need-true, need-false, look-then, signal-then, outcomeAt, outcome-is, with-value, post-done-of, done-of, Asked, is-false, is-jump, is-true, after-event, from-lower, from-default, on-default, from-answer, on-answer, from-later, signals-default, signals-followed, followed-done, followed-on, while-stays}
 use Rattle.laws.proofs.Cases.{law-goodPage, held-stays, goodFile-stays, back-done}
 
 -- ---- good line, and the event at a line's end
@@ -77,9 +77,9 @@ module _ (row : List ℕ) (r : Bool) (c : ℕ) {b : State} (t : List ℕ) {w k :
   answered-by a e = signal-then Event.character row _ b t ∙ ap (λ (a : Answer). upon Event.character a (λ m. execute row (answered r m) >>= λ _. pure (suggested m c)) (refuseAt Event.character 8) (heard row b) t) e
       ∙ ap (λ (z : State). upon Event.character a (λ m. execute row (answered r m) >>= λ _. pure (suggested m c)) (refuseAt Event.character 8) z t) (sym (after-event q))
 
-  pub event-refused : k ≡ 0 → characterEvent row (execute row) r c b t ≡ ends (refusal 8) (onRun b u) t
+  pub event-refuses : k ≡ 0 → (a : ℕ) {x : Outcome} → x ≡ refusedBy u 8 → outcomeGiving a x t (b .lengths .lines) (b .lengths .pages) ≡ characterEvent row (execute row) r c b t
   unfolding halt
-  event-refused z = answered-by _ (is-false q z)
+  event-refuses z a h = ap (λ (o : Outcome). outcomeGiving a o t (b .lengths .lines) (b .lengths .pages)) h ∙ sym (answered-by _ (is-false q z))
 
   -- what follows the answer, followed by the suggestion
   law-event : (k ≡ 0 → ⊥) → characterEvent row (execute row) r c b t ≡ (followed row r w >>= λ _. pure (suggested (mendingOf w) c)) (onRun b u) t
@@ -90,12 +90,8 @@ module _ (row : List ℕ) (r : Bool) (c : ℕ) {b : State} (t : List ℕ) {w k :
       by true e = answered-by _ (is-jump q (eqb-true k 8 e)) ∙ sym (bind-ends _ _ (onRun b u) t (branch-true _ _ (onRun b u) t (ap (λ (n : ℕ). eqb n 8) (sym (q .kind)) ∙ e)))
       by false e = answered-by _ (is-true q z (eqb-false k 8 e)) ∙ same-then _ _ _ (onRun b u) t (sym (branch-false _ _ (onRun b u) t (ap (λ (n : ℕ). eqb n 8) (sym (q .kind)) ∙ e)))
 
-  pub event-ends : (k ≡ 0 → ⊥) → {x : Ending} {v : State} {t′ : List ℕ} → followed row r w (onRun b u) t ≡ ends x v t′ → characterEvent row (execute row) r c b t ≡ ends x v t′
-  event-ends z h = law-event z ∙ bind-ends _ _ (onRun b u) t h
-
-  pub event-done : (k ≡ 0 → ⊥) → {v : State} {t′ : List ℕ} → followed row r w (onRun b u) t ≡ done tt v t′ → characterEvent row (execute row) r c b t ≡ done (suggested (mendingOf w) c) v t′
-  unfolding pure
-  event-done z h = law-event z ∙ bind-done _ _ (onRun b u) t h
+  pub event-follows : (k ≡ 0 → ⊥) → (o : Outcome) (t′ l p : List ℕ) → outcome o t′ l p ≡ followed row r w (onRun b u) t → {a : ℕ} → a ≡ suggested (mendingOf w) c → outcomeGiving a o t′ l p ≡ characterEvent row (execute row) r c b t
+  event-follows z o t′ l p h e = ap (λ (a : ℕ). outcomeGiving a o t′ l p) e ∙ with-value _ o t′ l p (followed row r w) (onRun b u) t h ∙ sym (law-event z)
 
 -- ---- put of a character: b is what good line gave
 
@@ -131,32 +127,26 @@ module _ (row : List ℕ) (c : ℕ) (s : State) (t : List ℕ) (rd : Ready row (
     unfolding putCharacterBody
     put-stores e {y} {t′} hy ht hx = outcome-is b t′ hx ∙ stored-is b t₁ c hy ht ∙ sym (law-put ∙ bind-done _ _ s t f ∙ branch-true _ _ b t₁ e)
 
-    module _ (e : printable c ≡ false) {w k : ℕ} {u : Run} (q : Asked row b w k u) where
+    module _ (e : printable c ≡ false) where
       law-tried : execute row (putCharacter c) s t ≡ (characterEvent row (execute row) false 32 >>= λ c. execute row (putCharacter c)) b t₁
       unfolding putCharacterBody
       law-tried = law-put ∙ bind-done _ _ s t f ∙ branch-false _ _ b t₁ e
 
-      pub put-refuses : k ≡ 0 → {x : Outcome} → x ≡ refusedBy u 8 → outcomeAt x b t₁ ≡ execute row (putCharacter c) s t
-      put-refuses z h = outcome-is b t₁ h ∙ sym (law-tried ∙ bind-ends _ _ b t₁ (event-refused row false 32 t₁ q z))
-
-      pub put-event-ends : (k ≡ 0 → ⊥) → {x : Ending} {v : State} {t′ : List ℕ} → followed row false w (onRun b u) t₁ ≡ ends x v t′ → execute row (putCharacter c) s t ≡ ends x v t′
-      put-event-ends z h = law-tried ∙ bind-ends _ _ b t₁ (event-ends row false 32 t₁ q z h)
-
-      put-again : (k ≡ 0 → ⊥) → {v : State} {t′ : List ℕ} → followed row false w (onRun b u) t₁ ≡ done tt v t′ → execute row (putCharacter c) s t ≡ execute row (putCharacter (suggested (mendingOf w) 32)) v t′
-      put-again z h = law-tried ∙ bind-done _ _ b t₁ (event-done row false 32 t₁ q z h)
-
-      put-site : (k ≡ 0 → ⊥) → {v : State} {t′ : List ℕ} → followed row false w (onRun b u) t₁ ≡ done tt v t′ → (c′ : ℕ) → Site row (putCharacter c) s (putCharacter c′) v
-      put-site z {v} h c′ =
-          let x = followed-on put-from q z false t₁ h in
-          let y = from-later put-from (putCharacter c′) v x in y
+      pub put-event-ends : {x : Ending} {v : State} {t′ : List ℕ} → characterEvent row (execute row) false 32 b t₁ ≡ ends x v t′ → execute row (putCharacter c) s t ≡ ends x v t′
+      put-event-ends h = law-tried ∙ bind-ends _ _ b t₁ h
 
       -- the next turn of the loop, with the suggestion, and that it is nearer the end
-      pub trying-again : (k ≡ 0 → ⊥) → {v : State} {t′ : List ℕ} → followed row false w (onRun b u) t₁ ≡ done tt v t′ → {c′ : ℕ} → c′ ≡ suggested (mendingOf w) 32
-          → {c₀ : ℕ} {s₀ : State} {t₀ : List ℕ} → Trying row c₀ s₀ t₀ c s t → Trying row c₀ s₀ t₀ c′ v t′
-      trying-again z {v} {t′} h {c′} i m = record { ready = put-site z h c′ .0; same = m .same ∙ put-again z h ∙ ap (λ (x : ℕ). execute row (putCharacter x) v t′) (sym i) }
+      module _ {c′ : ℕ} {v : State} {t′ : List ℕ} (h : characterEvent row (execute row) false 32 b t₁ ≡ done c′ v t′) where
+        put-site : Site row (putCharacter c) s (putCharacter c′) v
+        put-site =
+            let o = post-done-of (event-post row (putCharacter c) false 32 b t₁ (put-from .ready) (omega arith)) h in
+            from-later put-from (putCharacter c′) v o
 
-      pub trying-less : (k ≡ 0 → ⊥) → {v : State} {t′ : List ℕ} → followed row false w (onRun b u) t₁ ≡ done tt v t′ → (c′ : ℕ) → measure row (putCharacter c′) v < measure row (putCharacter c) s
-      trying-less z h c′ = put-site z h c′ .1
+        pub trying-again : {c₀ : ℕ} {s₀ : State} {t₀ : List ℕ} → Trying row c₀ s₀ t₀ c s t → Trying row c₀ s₀ t₀ c′ v t′
+        trying-again m = record { ready = put-site .0; same = m .same ∙ law-tried ∙ bind-done _ _ b t₁ h }
+
+        pub trying-less : measure row (putCharacter c′) v < measure row (putCharacter c) s
+        trying-less = put-site .1
 
 -- ---- space: b is what good line gave
 

@@ -98,6 +98,10 @@ module _ (row : List ℕ) (action : Action) (s : State) (rd : Ready row action s
   pub site-lower : (action′ : Action) → stage action′ < stage action → Site row action s action′ s
   site-lower action′ h = (record { valid = rd .valid; took = rd .took; room = omega (arith, rd .room) }, omega arith)
 
+  -- an action no higher at the same state
+  pub ready-as : (action′ : Action) → stage action′ ≤ stage action → Ready row action′ s
+  ready-as action′ h = record { valid = rd .valid; took = rd .took; room = omega (arith, rd .room) }
+
   -- the same action further on
   pub ready-on : (u : State) → Valid u → u .run .taken ≤ length row → Gain 0 (s .run) (u .run) → Ready row action u
   ready-on u v t g = record { valid = v; took = t; room = omega (arith, rd .room, g .gains) }

@@ -7,7 +7,7 @@ use mathlib.Core.List.{List, [], _∷_, _++_}
 use mathlib.Core.Bool.{Bool, true, false, not, _&&_}
 use lib.Dec.{T, ltb, eqb, leb}
 use lib.ListN.{length, set, take, drop, getD, length-set}
-use lib.Seq.{set-out}
+use lib.Seq.{sets}
 use borrow.Author.Tests.{le-ltb, ltb-false}
 use Rattle.rules.specs.declared.Position.{Position}
 use Rattle.rules.specs.declared.Shape.{Shape}
@@ -16,19 +16,29 @@ use Rattle.rules.specs.Book.{choose, place, before, nextCharacter, lineIndex, c
 use Rattle.rules.specs.Step.{Out, done, ends, Step, _>>=_, andThen, pure, fileEnded, pageEnded, lineEnded, store, endAfter}
 use Rattle.rules.specs.Steps.{Action, goodLine, putCharacter, printable, putCharacterBody, body, execute}
 use Rattle.rules.specs.Calls.{putCharacters}
-use Rattle.laws.specs.Runs.{written, onBy, storedBy}
+use Rattle.laws.specs.Runs.{onBy, storedBy, every}
 use Rattle.laws.proofs.Order.{split, yes, no, is-yes, is-no, Lt, by-page, by-line, by-character, Le, le-page, le-line, le-character, before→Lt, Lt→before, nbefore→Le, Lt-Le}
 use Rattle.laws.proofs.Validity.{Valid, Near, near-at}
-use Rattle.laws.proofs.Progress.{Gain, Ready, LineGood, Done, ready-on, gain-less}
+use Rattle.laws.proofs.Progress.{Gain, Ready, LineGood, Done, ready-as, ready-on, gain-less}
 use Rattle.laws.proofs.Unfolding.{unfold-execute}
 use Rattle.laws.proofs.Ways.{bind-done, branch-true, done-of}
 use Rattle.laws.proofs.Lines.{goodLine-at-once, put-line, stored-is}
 
--- ---- every byte of a list is printable
+-- ---- a test that holds of every byte
 
-pub data AllPrintable : List ℕ → Type 0 where
-  none : AllPrintable []
-  also : {b : ℕ} {bs : List ℕ} → printable b ≡ true → AllPrintable bs → AllPrintable (b ∷ bs)
+pub data All (f : ℕ → Bool) : List ℕ → Type 0 where
+  none : All f []
+  also : {b : ℕ} {bs : List ℕ} → f b ≡ true → All f bs → All f (b ∷ bs)
+
+pub both-true : (x y : Bool) → (x && y) ≡ true → (x ≡ true) × (y ≡ true)
+both-true true true e = (refl, refl)
+both-true true false e = absurd (let o : _≡_ {A = ℕ} 0 1 = cc in omega arith)
+both-true false y e = absurd (let o : _≡_ {A = ℕ} 0 1 = cc in omega arith)
+
+pub all-of : (f : ℕ → Bool) (bs : List ℕ) → every f bs ≡ true → All f bs
+unfolding every
+all-of f [] e = none
+all-of f (b ∷ bs) e = let x = both-true (f b) (every f bs) e in also (x .0) (all-of f bs (x .1))
 
 -- ---- the logical end after two places on one line is the end after the second
 
@@ -80,7 +90,7 @@ module _ (maySet : Bool) (end : Position) (p l c d : ℕ) (h : c < d) (one : 1 �
 
 -- a state ready to put a character is ready to put any
 pub any-character : {row : List ℕ} {b : ℕ} {s : State} (c : ℕ) → Ready row (putCharacter b) s → Ready row (putCharacter c) s
-any-character c rd = record { valid = rd .valid; took = rd .took; room = rd .room }
+any-character {row} {b} {s} c rd = ready-as row (putCharacter b) s rd (putCharacter c) (omega arith)
 
 module _ (row : List ℕ) (b : ℕ) (s : State) (t : List ℕ) (rd : Ready row (putCharacter b) s) (g : LineGood false s) (e : printable b ≡ true) where
   pub put-one : execute row (putCharacter b) s t ≡ store b s t
@@ -97,7 +107,7 @@ pub good-on : (s : State) (n : ℕ) → LineGood false s → here s .character +
 unfolding fileEnded
 good-on s n g h = (g .0, le-ltb (lineHere s) (here s .character + n) h)
 
-index-next : (h : Shape) (x : Position) → 1 ≤ x .character → characterIndex h (nextCharacter x) ≡ suc (characterIndex h x)
+pub index-next : (h : Shape) (x : Position) → 1 ≤ x .character → characterIndex h (nextCharacter x) ≡ suc (characterIndex h x)
 unfolding characterIndex
 index-next h x o = omega arith
 
@@ -110,10 +120,10 @@ twice s m n =
     (end-twice (rightsOf s .«set») (endOf s) (here s .page) (here s .line) (here s .character + 1) (here s .character + suc (suc m)) (omega arith) (omega arith))
 
 -- a run of at least one character
-pub put-run : (row : List ℕ) (b : ℕ) (bs : List ℕ) (s : State) (t : List ℕ) → Ready row (putCharacter b) s → LineGood false s → printable b ≡ true → AllPrintable bs
+pub put-run : (row : List ℕ) (b : ℕ) (bs : List ℕ) (s : State) (t : List ℕ) → Ready row (putCharacter b) s → LineGood false s → printable b ≡ true → All printable bs
     → here s .character + length bs ≤ lineHere s
-    → putCharacters row (b ∷ bs) s t ≡ done tt (onRun s (storedBy (suc (length bs)) (s .run))) (written (b ∷ bs) (characterIndex (shapeOf s) (here s)) t)
-unfolding putCharacters written pure
+    → putCharacters row (b ∷ bs) s t ≡ done tt (onRun s (storedBy (suc (length bs)) (s .run))) (sets t (characterIndex (shapeOf s) (here s)) (b ∷ bs))
+unfolding putCharacters pure
 put-run row b [] s t rd g e none k = bind-done _ _ s t (put-one row b s t rd g e ∙ sym (stored-is s t b refl refl))
 put-run row b (c ∷ cs) s t rd g e (also f fs) k =
     let s₁ : State = onRun s (storedBy 1 (s .run)) in
@@ -121,11 +131,11 @@ put-run row b (c ∷ cs) s t rd g e (also f fs) k =
     let n : Near (here s) = near-at (rd .valid) in
     bind-done _ _ s t (put-one row b s t rd g e ∙ sym (stored-is s t b refl refl))
     ∙ put-run row c cs s₁ t₁ (any-character c (one-ready row b s t rd g e)) (good-on s 1 g (omega arith)) f fs (omega arith)
-    ∙ ap (λ (r : Run). done tt (onRun s r) (written (c ∷ cs) (characterIndex (shapeOf s) (nextCharacter (here s))) t₁)) (twice s (length cs) n)
-    ∙ ap (λ (i : ℕ). done tt (onRun s (storedBy (suc (suc (length cs))) (s .run))) (written (c ∷ cs) i t₁)) (index-next (shapeOf s) (here s) (n .character-low))
+    ∙ ap (λ (r : Run). done tt (onRun s r) (sets t₁ (characterIndex (shapeOf s) (nextCharacter (here s))) (c ∷ cs))) (twice s (length cs) n)
+    ∙ ap (λ (i : ℕ). done tt (onRun s (storedBy (suc (suc (length cs))) (s .run))) (sets t₁ i (c ∷ cs))) (index-next (shapeOf s) (here s) (n .character-low))
 
 -- and the state after it is ready for more
-pub run-ready : (row : List ℕ) (b : ℕ) (bs : List ℕ) (s : State) (t : List ℕ) → Ready row (putCharacter b) s → LineGood false s → printable b ≡ true → AllPrintable bs
+pub run-ready : (row : List ℕ) (b : ℕ) (bs : List ℕ) (s : State) (t : List ℕ) → Ready row (putCharacter b) s → LineGood false s → printable b ≡ true → All printable bs
     → here s .character + length bs ≤ lineHere s → Ready row (putCharacter b) (onRun s (storedBy (suc (length bs)) (s .run)))
 run-ready row b [] s t rd g e none k = one-ready row b s t rd g e
 run-ready row b (c ∷ cs) s t rd g e (also f fs) k =

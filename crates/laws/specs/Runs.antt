@@ -1,17 +1,14 @@
--- A run of characters stored on one line at once: what the code's inner loops write. That it is the definitions' put of that many
--- characters is a law (proofs/Stored).
-use Prim.Native.Nat.{ℕ, suc, _+_}
+-- A run of characters on one line, put or got at once by the code's inner loops. That it is as many of the definitions' steps is a law
+-- (proofs/Runs, proofs/Gets).
+use Prim.Native.Nat.{ℕ, _+_}
+use mathlib.Core.Bool.{Bool, true, not, _&&_}
 use mathlib.Core.List.{List, [], _∷_}
-use lib.ListN.{set}
 use Rattle.rules.specs.declared.Position.{Position}
 use Rattle.rules.specs.declared.Run.{Run}
 use Rattle.rules.specs.Book.{place, withEnd, movedTo}
 use Rattle.rules.specs.Step.{endAfter}
-
--- the characters bs written from index i on
-unfoldable pub written : List ℕ → ℕ → List ℕ → List ℕ
-written [] i t = t
-written (b ∷ bs) i t = written bs (suc i) (set t i b)
+use Rattle.rules.specs.Steps.{printable}
+use Rattle.rules.specs.Calls.{oneOf}
 
 -- n characters on
 abbrev pub onBy : ℕ → Position → Position
@@ -20,3 +17,12 @@ onBy n x = place (x .page) (x .line) (x .character + n)
 -- the running call after n characters, at least one, were stored on its line
 abbrev pub storedBy : ℕ → Run → Run
 storedBy n r = withEnd (movedTo r (onBy n (r .file .position))) (endAfter (r .file .rights .«set») (r .end) (onBy n (r .file .position)))
+
+-- whether a test holds of every byte
+unfoldable pub every : (ℕ → Bool) → List ℕ → Bool
+every f [] = true
+every f (b ∷ bs) = f b && every f bs
+
+-- a byte that is no terminator and signals nothing
+unfoldable pub ordinary : List ℕ → ℕ → Bool
+ordinary terminators b = printable b && not (oneOf terminators b)

@@ -5,8 +5,8 @@ ghost use mathlib.Core.Path.{_≡_};
 ghost use lib.Dec.{T};
 ghost use mathlib.Core.Bool.{false};
 ghost use Rattle.rules.specs.Book.{state, rowFits};
-ghost use Rattle.rules.specs.Step.{outcome};
-ghost use Rattle.rules.specs.Steps.{Action, printable, spaceStep, execute};
+ghost use Rattle.rules.specs.Step.{outcomeGiving, outcome};
+ghost use Rattle.rules.specs.Steps.{Action, printable, characterEvent, spaceStep, execute};
 ghost use Rattle.rules.specs.Ready.{Ready};
 
 // Whether a byte is from 32 to 126.
@@ -14,6 +14,42 @@ pub fn is_printable(b: u8) -> bool
     ensures { λ r. ⌜ r ≡ printable b ⌝ }
 {
     if 32 <= b { b <= 126 } else { false }
+}
+
+// The outcome of a step that gives a character, and the character; it means nothing where the step ended the call.
+pub struct Taken {
+    pub outcome: Outcome,
+    pub byte: u8,
+}
+
+// "signals character, suggesting" b; "default refusal 8", else the character that the answer leaves.
+pub fn character_event(
+    run: Run,
+    reading: bool,
+    b: u8,
+    text: &mut [u8],
+    lines: &mut [u8],
+    pages: &mut [u8],
+    row: &[u32],
+) -> Taken
+    requires { ⌜ Ready (now row) Action.passBlanks (state run (now lines) (now pages)) ⌝ }
+    requires { ⌜ T (rowFits (now row)) ⌝ }
+    ensures { λ r. ⌜ outcomeGiving (r .byte) (r .outcome) (now (text .exit)) (now (lines .exit)) (now (pages .exit)) ≡ characterEvent (now (row .entry)) (execute (now (row .entry))) reading b (state run (now (lines .entry)) (now (pages .entry))) (now (text .entry)) ⌝ }
+{
+    let word = running::next_word(run, row);
+    let next = running::signalled(run, row);
+    if running::kind_of(word) == 0 {
+        return Taken {
+            outcome: running::refused(next, 8),
+            byte: b,
+        };
+    }
+    let byte = running::suggestion(word, b);
+    let after = events::follow(next, word, reading, text, lines, pages, row);
+    Taken {
+        outcome: after,
+        byte: byte,
+    }
 }
 
 // Signals line end: its default is newline, or a string's stop 2.
@@ -98,17 +134,12 @@ pub fn put_character(
             let on = stores::store_character(at, text, c);
             return running::finish(on);
         }
-        let word = running::next_word(at, row);
-        let next = running::signalled(at, row);
-        if running::kind_of(word) == 0 {
-            return running::refused(next, 8);
+        let answer = character_event(at, false, 32, text, lines, pages, row);
+        if !running::goes_on(answer.outcome) {
+            return answer.outcome;
         }
-        let after = events::follow(next, word, false, text, lines, pages, row);
-        if !running::goes_on(after) {
-            return after;
-        }
-        c = running::suggestion(word, 32);
-        here = after.run;
+        c = answer.byte;
+        here = answer.outcome.run;
     }
 }
 

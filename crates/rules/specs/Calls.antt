@@ -136,6 +136,17 @@ viewNumber p l = begin do
 
 -- ---- calls that lend answers
 
+-- whether a byte is in the lent terminators
+unfoldable pub oneOf : List ℕ → ℕ → Bool
+oneOf [] b = false
+oneOf (x ∷ xs) b = eqb x b || oneOf xs b
+
+-- a value with the sign that was read
+unfoldable pub withSign : Bool → ℕ → ℤ
+withSign true zero = pos zero
+withSign true (suc n) = negsuc n
+withSign false n = pos n
+
 module _ (row : List ℕ) where
   -- "Put a string: its characters in turn; an empty one only turns the mood."
   unfoldable pub putCharacters : List ℕ → Step Unit
@@ -183,10 +194,6 @@ module _ (row : List ℕ) where
     b ← takeCharacter
     pure (aCharacter b)
 
-  unfoldable pub oneOf : List ℕ → ℕ → Bool
-  oneOf [] b = false
-  oneOf (x ∷ xs) b = eqb x b || oneOf xs b
-
   -- "good page, where a logical end answered 0 is stop 3; line end answered 0 is stop 2, with no newline. A byte in the lent terminators
   -- is stop 1 and is not passed. Otherwise as a character."
   unfoldable pub stringCharacter : List ℕ → Step ℕ
@@ -217,11 +224,6 @@ module _ (row : List ℕ) where
     branch (digit b) (pure b) (do
       c ← characterEvent row (execute row) true 48
       branch (digit c) (pure c) (refuseAt Event.character 8))
-
-  unfoldable pub withSign : Bool → ℕ → ℤ
-  withSign true zero = pos zero
-  withSign true (suc n) = negsuc n
-  withSign false n = pos n
 
   -- "Above 2147483647 signals value: 0 is refusal 9, else done with no value given."
   unfoldable pub integerGiven : Bool → ℕ → Step Value

@@ -221,8 +221,12 @@ endPage = do
 abbrev pub going : Ending → Bool
 going e = choose (eqb (e .number) 0) (eqb (e .stop) 0) false
 
+-- of a step that gives a value
+abbrev pub outcomeGiving : {A : Type 0} → A → Outcome → List ℕ → List ℕ → List ℕ → Out A
+outcomeGiving a o t l p = choose (going (o .ending)) (done a (state (o .run) l p) t) (ends (o .ending) (state (o .run) l p) t)
+
 abbrev pub outcome : Outcome → List ℕ → List ℕ → List ℕ → Out Unit
-outcome o t l p = choose (going (o .ending)) (done tt (state (o .run) l p) t) (ends (o .ending) (state (o .run) l p) t)
+outcome o t l p = outcomeGiving tt o t l p
 
 abbrev pub outcomeWith : Run → Ending → Outcome
 outcomeWith r e = record { run = r; ending = e }

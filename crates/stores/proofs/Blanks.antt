@@ -6,12 +6,11 @@ use mathlib.Core.List.{List, [], _∷_, _++_}
 use native.Mathlib.Omega.{arith}
 use native.Mathlib.Numerals.{add-one, sub-one}
 use lib.ListN.{length, getD, set, take, drop, length-set}
-use lib.Seq.{drop-cons}
+use lib.Seq.{sets, drop-cons}
 use Rattle.rules.specs.declared.Position.{Position}
 use Rattle.rules.specs.declared.Shape.{Shape}
 use Rattle.rules.specs.Book.{choose, place, before, Lengths, lineLength, characterIndex}
 use Rattle.rules.specs.Step.{endAfter, blanks, blankLine, blankLines}
-use Rattle.laws.specs.Runs.{written}
 
 pub blanks-step : (n i : ℕ) (t : List ℕ) → 0 < n → blanks (n - 1) (i + 1) (set t i 32) ≡ blanks n i t
 unfolding blanks
@@ -29,8 +28,7 @@ blankLine-of h f x t t′ size from rest hs hf hr ht = rw (ht, hr, hf, hs)
 
 -- a run stored from the front: what is left of it, from index i on
 pub run-step : (bs : List ℕ) (n from at i : ℕ) (t : List ℕ) → i < n → from + n ≤ length bs
-    → written (take (n - (i + 1)) (drop (from + (i + 1)) bs)) (at + (i + 1)) (set t (at + i) (getD bs (from + i) 0)) ≡ written (take (n - i) (drop (from + i) bs)) (at + i) t
-unfolding written
+    → sets (set t (at + i) (getD bs (from + i) 0)) (at + (i + 1)) (take (n - (i + 1)) (drop (from + (i + 1)) bs)) ≡ sets t (at + i) (take (n - i) (drop (from + i) bs))
 run-step bs n from at i t h k =
     let d : drop (from + i) bs ≡ getD bs (from + i) 0 ∷ drop (suc (from + i)) bs = drop-cons bs (from + i) 0 (omega arith) in
     let e : n - i ≡ suc (n - (i + 1)) = omega arith in
@@ -38,8 +36,7 @@ run-step bs n from at i t h k =
     let q : at + (i + 1) ≡ suc (at + i) = omega arith in
     rw (d, e, p, q)
 
-pub run-none : (bs : List ℕ) (n from at i : ℕ) (t : List ℕ) → n ≤ i → written (take (n - i) (drop (from + i) bs)) (at + i) t ≡ t
-unfolding written
+pub run-none : (bs : List ℕ) (n from at i : ℕ) (t : List ℕ) → n ≤ i → sets t (at + i) (take (n - i) (drop (from + i) bs)) ≡ t
 run-none bs n from at i t h = let e : n - i ≡ 0 = omega arith in rw e
 
 module _ (maySet : Bool) (end x : Position) where

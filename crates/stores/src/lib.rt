@@ -6,9 +6,10 @@ use rules::Shape;
 ghost use mathlib.Core.Path.{_≡_};
 ghost use Prim.Native.Nat.{_+_, _-_, _≤_, _<_, _^_};
 ghost use lib.ListN.{length, set, take, drop};
+ghost use lib.Seq.{sets};
 ghost use Rattle.rules.specs.Book.{place, lengths, characterIndex, state};
 ghost use Rattle.rules.specs.Step.{Out, done, endAfter, blanks, blankLine, blankLines, endLine, endPage};
-ghost use Rattle.laws.specs.Runs.{written, storedBy};
+ghost use Rattle.laws.specs.Runs.{storedBy};
 ghost use Rattle.places.specs.Small.{Small};
 
 // Stores a byte, if its place is there.
@@ -149,7 +150,7 @@ pub fn store_character(run: Run, text: &mut [u8], b: u8) -> Run
 // Writes a part of some bytes into the text.
 pub fn store_run(text: &mut [u8], at: usize, bytes: &[u8], from: usize, count: usize)
     requires { ⌜ (at + count ≤ length (now text)) × (from + count ≤ length (now bytes)) ⌝ }
-    ensures { λ _. ⌜ now (text .exit) ≡ written (take count (drop from (now (bytes .entry)))) at (now (text .entry)) ⌝ }
+    ensures { λ _. ⌜ now (text .exit) ≡ sets (now (text .entry)) at (take count (drop from (now (bytes .entry)))) ⌝ }
 {
     let mut i = 0;
     while i < count {

@@ -232,7 +232,7 @@ module _ {R : Rights} {L : Lengths} where
     unfolding stringCharacter
     sim-stringCharacter terminators a = sim-bind (sim-execute row (goodLine true true) a) λ _.
         sim-bind sim-character λ b.
-        sim-branch (oneOf row terminators b) (λ _. sim-halt (stopped 1)) (λ _. sim-takeCharacter a)
+        sim-branch (oneOf terminators b) (λ _. sim-halt (stopped 1)) (λ _. sim-takeCharacter a)
 
     sim-getCharacters : (terminators : List ℕ) (room : ℕ) (bs : List ℕ) → Right R true → Safe R L (getCharacters row terminators room bs)
     unfolding getCharacters
@@ -247,7 +247,7 @@ module _ {R : Rights} {L : Lengths} where
 
     sim-integerGiven : (minus : Bool) (v : ℕ) → Right R true → Safe R L (integerGiven row minus v)
     unfolding integerGiven
-    sim-integerGiven minus v a = sim-branch (leb v 2147483647) (λ _. sim-pure Free (anInteger (withSign row minus v)))
+    sim-integerGiven minus v a = sim-branch (leb v 2147483647) (λ _. sim-pure Free (anInteger (withSign minus v)))
         (λ _. sim-bind (sim-signals row (execute row) (sim-execute row) Event.value true a (sim-halt (refusal 9))) λ _. sim-pure Free nothing)
 
 -- the mood of a set, if one is on, has its right

@@ -4,13 +4,13 @@ use native.Mathlib.Omega.{arith}
 use mathlib.Core.Path.{_≡_, sym, _∙_}
 use lib.ListN.{length, length-set, take, drop}
 use Prim.Native.Nat.{_≤_, _+_, _-_}
-use Rattle.laws.specs.Runs.{written}
+use lib.Seq.{sets}
 use Rattle.stores.proofs.Blanks.{run-step, run-none}
 use Rattle.stores.proofs.store_run.Statement.{statement}
 use Rattle.stores.proofs.store_run.Tie as tie
 
 abbrev Inv-loop : tie.InvT-loop
-Inv-loop text₀ at bytes from count i₀ text i = (written (take (count - i) (drop (from + i) bytes)) (at + i) text ≡ written (take count (drop from bytes)) at text₀) × (i ≤ count) × (length text ≡ length text₀)
+Inv-loop text₀ at bytes from count i₀ text i = (sets text (at + i) (take (count - i) (drop (from + i) bytes)) ≡ sets text₀ at (take count (drop from bytes))) × (i ≤ count) × (length text ≡ length text₀)
 
 abbrev μ-loop : tie.MeasureT-loop
 μ-loop text₀ at bytes from count i₀ text i = count - i
@@ -37,11 +37,8 @@ loop-less : tie.Need-loop-less Inv-loop μ-loop
 loop-less c = omega arith
 
 loop-again : tie.Need-loop-again Inv-loop μ-loop
-loop-again c = (
-  run-step (c .before .before .before .args .bytes .now) (c .before .before .before .args .count) (c .before .before .before .args .from) (c .before .before .before .args .at) (c .before .before .loop .i) (c .before .before .loop .text) (omega arith) (omega (arith, c .before .before .before .pre)) ∙ c .before .before .loop .inv .0,
-  omega arith,
-  length-set (c .before .before .loop .text) _ _ ∙ c .before .before .loop .inv .2,
-)
+loop-again c = (run-step (c .before .before .before .args .bytes .now) (c .before .before .before .args .count) (c .before .before .before .args .from) (c .before .before .before .args .at) (c .before .before .loop .i) (c .before .before .loop .text) (omega arith) (omega (arith, c .before .before .before .pre)) ∙ c .before .before .loop .inv .0,
+    omega arith, length-set (c .before .before .loop .text) _ _ ∙ c .before .before .loop .inv .2)
 
 same-length : tie.Need-same-length Inv-loop μ-loop
 same-length c = c .before .loop .inv .2
