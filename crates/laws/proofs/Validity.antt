@@ -128,7 +128,7 @@ module _ (s : State) (v : Valid s) where
       (λ e. (eqb-true (here s .page) (endOf s .page) e, eqb-true (here s .line) (endOf s .line) (rw e at h)))
       (λ e. let z : _≡_ {A = Bool} false true = rw e at h in let o : _≡_ {A = ℕ} 0 1 = cc in absurd (omega arith))
 
-  next-line-le : onEndLine (s .run) ≡ false → rank (nextLine (here s)) ≤ rank (endOf s)
+  pub next-line-le : onEndLine (s .run) ≡ false → rank (nextLine (here s)) ≤ rank (endOf s)
   next-line-le h =
       let a : Near (here s) = near-at v in
       let b : Near (endOf s) = near-end v in

@@ -4,6 +4,7 @@ use rules::Run;
 use rules::Shape;
 ghost use mathlib.Core.Path.{_≡_};
 ghost use Prim.Native.Nat.{_≤_, _<_, _^_};
+ghost use lib.ListN.{getD};
 ghost use Rattle.rules.specs.Book.{place, before, lengths, pageLength, lineIndex, lineLength, characterIndex, inBounds, state};
 ghost use Rattle.rules.specs.Step.{fileEnded, pageEnded, lineEnded, onEndLine};
 ghost use Rattle.places.specs.Small.{Small};
@@ -131,6 +132,22 @@ pub fn character_index(shape: Shape, page: usize, line: usize, character: usize)
     ensures { λ r. ⌜ (r ≡ characterIndex shape (place page line character)) × (r < 2 ^ 25) ⌝ }
 {
     line_index(shape, page, line) * shape.characters + (character - 1)
+}
+
+// The character at the position, 0 where it is not there.
+pub fn character_here(run: Run, text: &[u8]) -> u8
+    requires { ⌜ Small (run .file .shape) (run .file .position .page) (run .file .position .line) ⌝ }
+    requires { ⌜ (1 ≤ run .file .position .character) × (run .file .position .character ≤ 256) ⌝ }
+    ensures { λ r. ⌜ r ≡ getD (now (text .entry)) (characterIndex (run .file .shape) (run .file .position)) 0 ⌝ }
+{
+    let shape = run.file.shape;
+    let i = character_index(
+        shape,
+        run.file.position.page,
+        run.file.position.line,
+        run.file.position.character,
+    );
+    if i < text.len() { text[i] } else { 0 }
 }
 
 // Whether a place is in bounds.
