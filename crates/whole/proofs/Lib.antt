@@ -1,0 +1,4 @@
+pub mod Signed
+pub mod Joined
+pub mod Digits
+pub mod Texts
