@@ -10,3 +10,4 @@ pub mod Lines
 pub mod Runs
 pub mod Puts
 pub mod Gets
+pub mod Numbers

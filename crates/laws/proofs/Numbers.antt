@@ -1,0 +1,322 @@
+-- The laws of an integer put and got, in the shape in which code meets them. Assumes nothing.
+use Prim.Native.Nat.{ℕ, zero, suc, _+_, _*_, _-_, _/_, _%_, _<_, _≤_}
+use native.Mathlib.Omega.{arith}
+use mathlib.Core.Path.{_≡_, refl, sym, ap, subst, _∙_}
+use mathlib.Core.List.{List, [], _∷_, _++_}
+use mathlib.Core.Bool.{Bool, true, false, not, _&&_, _||_}
+use lib.Dec.{leb, ltb, eqb}
+use lib.IntN.{ℤ, pos, negsuc}
+use lib.ListN.{length, set, getD, replicate, length-append, length-replicate}
+use lib.Seq.{sets}
+use borrow.Author.Tests.{le-leb, lt-leb, leb-true, leb-false, ltb-true, eq-eqb, ne-eqb, not-false}
+use Rattle.rules.specs.declared.Run.{Run}
+use Rattle.rules.specs.declared.Ending.{Ending}
+use Rattle.rules.specs.declared.Outcome.{Outcome}
+use Rattle.rules.specs.Book.{choose, within, nextCharacter, characterIndex, State, onRun, here, shapeOf, lineHere, movedTo, Event}
+use Rattle.rules.specs.Step.{Out, done, ends, Step, _>>=_, pure, halt, refuse, refuseAt, refusal, attempt, test, need, branch, pass, characterHere, outcomeGiving, outcome, doneBy, refusedBy}
+use Rattle.rules.specs.Steps.{Action, goodLine, atLineEnd, putCharacter, roomFor, passBlanks, moreDigits, printable, digit, fitsHere, isStop, signals, signalWhile, characterEvent, roomForBody, passBlanksBody, moreDigitsBody, body, stage, measure, execute}
+use Rattle.rules.specs.Whole.{digitsUpTo, digits, signed, padded, wholeText}
+use Rattle.rules.specs.Calls.{Value, nothing, anInteger, putCharacters, putText, firstDigit, withSign, integerGiven}
+use Rattle.laws.specs.Runs.{storedBy, every}
+use Rattle.laws.specs.Capped.{capped}
+use Rattle.laws.proofs.Order.{split}
+use Rattle.laws.proofs.Validity.{Valid, Near, near-at}
+use Rattle.laws.proofs.Progress.{Gain, Ready, LineGood, Done, Site, site-lower, ready-as, ready-on, gain-less, gain-trans, From, from-start, from-gain}
+use Rattle.laws.proofs.Walk.{Ended, Post, At, at-pure, at-halt, at-bind, at-branch, at-weak, at-first, at-character, ended-here, ended-on, pass-gain}
+use Rattle.laws.proofs.Unfolding.{On, unfold-execute}
+use Rattle.laws.proofs.Ways.{bind-done, bind-ends, attempt-done, attempt-ends, branch-true, branch-false, test-true, test-false, need-true, need-false, change-then, outcomeAt, outcome-is, post-done-of, done-of, from-lower, while-stays, while-ends, while-again}
+use Rattle.laws.proofs.Lines.{stored-is}
+use Rattle.laws.proofs.Runs.{All, none, also, all-of, both-true, any-character, put-one, put-run, good-on, one-ready}
+use Rattle.laws.proofs.Gets.{character-then, passed, passed-ready, passed-on, passed-event, post-at, on-further}
+
+-- ---- room for a text of w characters: b is what good line gave
+
+module _ (row : List ℕ) (w : ℕ) (s : State) (t : List ℕ) (rd : Ready row (roomFor w) s) where
+  pub room-line : Ready row (goodLine false false) s
+  room-line = site-lower row (roomFor w) s rd (goodLine false false) (omega arith) .0
+
+  law-room : execute row (roomFor w) s t ≡ roomForBody row (execute row) w s t
+  unfolding body
+  law-room = unfold-execute row (roomFor w) s t rd
+
+  pub room-ends : {x : Ending} {u : State} {t′ : List ℕ} → execute row (goodLine false false) s t ≡ ends x u t′ → execute row (roomFor w) s t ≡ ends x u t′
+  unfolding roomForBody
+  room-ends h = law-room ∙ bind-ends _ _ s t h
+
+  module _ {b : State} {t₁ : List ℕ} (f : execute row (goodLine false false) s t ≡ done tt b t₁) where
+    pub room-from : From row (roomFor w) s b
+    room-from = let d = done-of row (goodLine false false) t room-line f in from-gain b rd (d .valid) (d .took) (d .claim .0)
+
+    pub room-short : lineHere b < w → {x : Outcome} → x ≡ refusedBy (b .run) 10 → outcomeAt x b t₁ ≡ execute row (roomFor w) s t
+    unfolding roomForBody
+    room-short e h = outcome-is b t₁ h ∙ sym (law-room ∙ bind-done _ _ s t f ∙ need-false 10 _ _ b t₁ (lt-leb w (lineHere b) e))
+
+    module _ (k : w ≤ lineHere b) where
+      law-held : execute row (roomFor w) s t ≡ signalWhile (λ s. not (fitsHere w s)) (execute row (atLineEnd false false)) (execute row (roomFor w)) b t₁
+      unfolding roomForBody
+      law-held = law-room ∙ bind-done _ _ s t f ∙ need-true 10 _ _ b t₁ (le-leb w (lineHere b) k)
+
+      pub room-fits : fitsHere w b ≡ true → {x : Outcome} → x ≡ doneBy (b .run) → outcomeAt x b t₁ ≡ execute row (roomFor w) s t
+      room-fits e h = outcome-is b t₁ h ∙ sym (law-held ∙ while-stays _ _ _ b t₁ (ap not e))
+
+      module _ (e : fitsHere w b ≡ false) where
+        pub room-event-ends : {x : Ending} {u : State} {t′ : List ℕ} → execute row (atLineEnd false false) b t₁ ≡ ends x u t′ → execute row (roomFor w) s t ≡ ends x u t′
+        room-event-ends h = law-held ∙ while-ends _ _ _ b t₁ (ap not e) h
+
+        pub room-again : {u : State} {t′ : List ℕ} → execute row (atLineEnd false false) b t₁ ≡ done tt u t′ → execute row (roomFor w) s t ≡ execute row (roomFor w) u t′
+        room-again h = law-held ∙ while-again _ _ _ b t₁ (ap not e) h
+
+        pub room-on : {u : State} {t′ : List ℕ} → execute row (atLineEnd false false) b t₁ ≡ done tt u t′ → On row b u
+        room-on h = let d = done-of row (atLineEnd false false) t₁ (from-lower room-from (atLineEnd false false) (omega arith) .0) h in record { valid = d .valid; took = d .took; gain = d .claim }
+
+-- the code's test of it
+pub fits-at : (w : ℕ) (b : State) {size : ℕ} → size ≡ lineHere b → here b .character ≡ 1 → w ≤ size → fitsHere w b ≡ true
+unfolding fitsHere
+fits-at w b e c h = rw (eq-eqb (here b .character) 1 c) (le-leb (here b .character + w + 0) (lineHere b + 1) (omega (arith, e, c)))
+
+pub fits-after : (w : ℕ) (b : State) {size : ℕ} → size ≡ lineHere b → (here b .character ≡ 1 → ⊥) → here b .character + w ≤ size → fitsHere w b ≡ true
+unfolding fitsHere
+fits-after w b e c h = rw (ne-eqb (here b .character) 1 c) (le-leb (here b .character + w + 1) (lineHere b + 1) (omega (arith, e)))
+
+pub fits-not : (w : ℕ) (b : State) {size : ℕ} → size ≡ lineHere b → (here b .character ≡ 1 → ⊥) → size < here b .character + w → fitsHere w b ≡ false
+unfolding fitsHere
+fits-not w b e c h = rw (ne-eqb (here b .character) 1 c) (lt-leb (here b .character + w + 1) (lineHere b + 1) (omega (arith, e)))
+
+fits-fact : (w : ℕ) (b : State) → fitsHere w b ≡ true → here b .character + w ≤ lineHere b + 1
+unfolding fitsHere
+fits-fact w b h = let x = leb-true (here b .character + w + choose (eqb (here b .character) 1) 0 1) (lineHere b + 1) h in omega (arith, x)
+
+fits-fact-after : (w : ℕ) (b : State) → (here b .character ≡ 1 → ⊥) → fitsHere w b ≡ true → here b .character + w ≤ lineHere b
+unfolding fitsHere
+fits-fact-after w b c h = let x = leb-true (here b .character + w + choose (eqb (here b .character) 1) 0 1) (lineHere b + 1) h in omega (arith, (rw (ne-eqb (here b .character) 1 c) at x))
+
+-- ---- every character of whole(v, w) is printable
+
+blank-printable : printable 32 ≡ true
+unfolding printable within
+blank-printable = refl
+
+near-printable : (d : ℕ) → d < 10 → printable (48 + d) ≡ true
+unfolding printable within
+near-printable d h = rw (le-leb 32 (48 + d) (omega arith), le-leb (48 + d) 126 (omega arith))
+
+every-append : (f : ℕ → Bool) (xs ys : List ℕ) → every f xs ≡ true → every f ys ≡ true → every f (xs ++ ys) ≡ true
+unfolding every
+every-append f [] ys h k = k
+every-append f (x ∷ xs) ys h k = let b = both-true (f x) (every f xs) h in rw (b .0) (every-append f xs ys (b .1) k)
+
+every-same : (f : ℕ → Bool) (n b : ℕ) → f b ≡ true → every f (replicate n b) ≡ true
+unfolding every
+every-same f zero b h = refl
+every-same f (suc n) b h = rw h (every-same f n b h)
+
+digits-printable : (k n : ℕ) → every printable (digitsUpTo k n) ≡ true
+unfolding digitsUpTo every
+digits-printable zero n = refl
+digits-printable (suc k) n = split (ltb n 10)
+    (λ e. rw e (rw (near-printable n (ltb-true n 10 e)) refl))
+    (λ e. rw e (every-append printable (digitsUpTo k (n / 10)) ((48 + n % 10) ∷ []) (digits-printable k (n / 10)) (rw (near-printable (n % 10) (omega arith)) refl)))
+
+signed-printable : (plus : Bool) (v : ℤ) → every printable (signed plus v) ≡ true
+unfolding signed every printable within
+signed-printable true (pos n) = digits-printable 10 n
+signed-printable false (pos n) = digits-printable 10 n
+signed-printable plus (negsuc n) = digits-printable 10 (suc n)
+
+padded-printable : (w : ℕ) (text : List ℕ) → every printable text ≡ true → every printable (padded w text) ≡ true
+unfolding padded printable within
+padded-printable w text h = split (leb (length text) w)
+    (λ e. rw e (every-append printable (replicate (w - length text) 32) text (every-same printable (w - length text) 32 refl) h))
+    (λ e. rw e (every-same printable w 42 refl))
+
+pub whole-printable : (v w : ℤ) → every printable (wholeText v w) ≡ true
+unfolding wholeText
+whole-printable v (pos zero) = signed-printable false v
+whole-printable v (pos (suc w)) = padded-printable (suc w) (signed true v) (signed-printable true v)
+whole-printable v (negsuc w) = padded-printable (suc w) (signed false v) (signed-printable false v)
+
+padded-length : (w : ℕ) (text : List ℕ) → length (padded w text) ≡ w
+unfolding padded
+padded-length w text = split (leb (length text) w)
+    (λ e. rw e (length-append (replicate (w - length text) 32) text ∙ omega (arith, length-replicate {A = ℕ} (w - length text) 32, leb-true (length text) w e)))
+    (λ e. rw e (length-replicate w 42))
+
+pub eleven : (v : ℤ) → length (wholeText v (pos 11)) ≡ 11
+unfolding wholeText
+eleven v = padded-length 11 (signed true v)
+
+-- ---- a text put in its room
+
+module _ (row text : List ℕ) (s : State) (t : List ℕ) (rd : Ready row (roomFor (length text)) s) (p : every printable text ≡ true) (some : 0 < length text) where
+  pub text-ends : {x : Ending} {u : State} {t′ : List ℕ} → execute row (roomFor (length text)) s t ≡ ends x u t′ → putText row text s t ≡ ends x u t′
+  unfolding putText
+  text-ends h = bind-ends _ _ s t h
+
+  module _ {b : State} {t₁ : List ℕ} (f : execute row (roomFor (length text)) s t ≡ done tt b t₁) where
+    room-done : Done row (roomFor (length text)) s b
+    room-done = done-of row (roomFor (length text)) t rd f
+
+    -- the state is ready to put a character
+    put-ready : Ready row (putCharacter 32) b
+    put-ready = ready-as row (roomFor (length text)) b (from-gain b rd (room-done .valid) (room-done .took) (room-done .claim .0) .ready) (putCharacter 32) (omega arith)
+
+    -- all of the text, at a state with room for it
+    whole-run : (b : State) (t₁ : List ℕ) → Ready row (putCharacter 32) b → LineGood false b → here b .character + length text ≤ lineHere b + 1 → (cs : List ℕ) → text ≡ cs → All printable cs
+        → putCharacters row text b t₁ ≡ done tt (onRun b (storedBy (length text) (b .run))) (sets t₁ (characterIndex (shapeOf b) (here b)) text)
+    whole-run b t₁ r g k [] e a = absurd (omega (arith, some, ap length e))
+    whole-run b t₁ r g k (c ∷ cs) e (also q qs) =
+        let z : suc (length cs) ≡ length text = sym (ap length e) in
+        ap (λ (x : List ℕ). putCharacters row x b t₁) e ∙ put-run row c cs b t₁ (any-character c r) g q qs (omega (arith, k, z))
+        ∙ ap (λ (x : List ℕ). done tt (onRun b (storedBy (length x) (b .run))) (sets t₁ (characterIndex (shapeOf b) (here b)) x)) (sym e)
+
+    pub text-here : here b .character ≡ 1 → {y : Run} {t′ : List ℕ} → y ≡ storedBy (length text) (b .run) → t′ ≡ sets t₁ (characterIndex (shapeOf b) (here b)) text → {x : Outcome} → x ≡ doneBy y → outcomeAt x b t′ ≡ putText row text s t
+    unfolding putText pure
+    text-here c {y} {t′} hy ht hx = outcome-is b t′ hx ∙ ap (λ (r : Run). done tt (onRun b r) t′) hy ∙ ap (λ (l : List ℕ). done tt (onRun b (storedBy (length text) (b .run))) l) ht
+        ∙ sym (bind-done _ _ s t f ∙ bind-done _ _ b t₁ (test-true _ _ _ b t₁ (eq-eqb (here b .character) 1 c))
+        ∙ whole-run b t₁ put-ready (room-done .claim .1 .0) (fits-fact (length text) b (room-done .claim .1 .1)) text refl (all-of printable text p))
+
+    module _ (c : here b .character ≡ 1 → ⊥) {y : Run} {t₂ : List ℕ} (hy : y ≡ storedBy 1 (b .run)) (ht : t₂ ≡ set t₁ (characterIndex (shapeOf b) (here b)) 32) where
+      after-blank : putText row text s t ≡ putCharacters row text (onRun b y) t₂
+      unfolding putText
+      after-blank = bind-done _ _ s t f ∙ bind-done _ _ b t₁ (test-false _ _ _ b t₁ (ne-eqb (here b .character) 1 c) ∙ put-one row 32 b t₁ put-ready (room-done .claim .1 .0) blank-printable ∙ sym (stored-is b t₁ 32 hy ht))
+
+      blank-ready : Ready row (putCharacter 32) (onRun b y)
+      blank-ready = subst (λ (r : Run). Ready row (putCharacter 32) (onRun b r)) (sym hy) (one-ready row 32 b t₁ put-ready (room-done .claim .1 .0) blank-printable)
+
+      pub text-after : {z : Run} {t′ : List ℕ} → z ≡ storedBy (length text) y → t′ ≡ sets t₂ (characterIndex (y .file .shape) (y .file .position)) text → {x : Outcome} → x ≡ doneBy z → outcomeAt x b t′ ≡ putText row text s t
+      text-after {z} {t′} hz ht′ hx =
+          let k = fits-fact-after (length text) b c (room-done .claim .1 .1) in
+          let g : LineGood false (onRun b y) = subst (λ (r : Run). LineGood false (onRun b r)) (sym hy) (good-on b 1 (room-done .claim .1 .0) (omega (arith, k, some))) in
+          let e : y .file .position .character ≡ here b .character + 1 = ap (λ (r : Run). r .file .position .character) hy in
+          let w : y .file .position .character + length text ≤ lineHere (onRun b y) + 1 = subst (λ (r : Run). r .file .position .character + length text ≤ lineHere (onRun b r) + 1) (sym hy) (omega (arith, k)) in
+          outcome-is b t′ hx ∙ ap (λ (r : Run). done tt (onRun b r) t′) hz ∙ ap (λ (l : List ℕ). done tt (onRun b (storedBy (length text) y)) l) ht′
+          ∙ sym (after-blank ∙ whole-run (onRun b y) t₂ blank-ready g w text refl (all-of printable text p))
+
+-- ---- blanks passed: b is what good line gave, c stands there
+
+module _ (row : List ℕ) (s : State) (t : List ℕ) (rd : Ready row passBlanks s) where
+  pub blanks-line : Ready row (goodLine true false) s
+  blanks-line = site-lower row passBlanks s rd (goodLine true false) (omega arith) .0
+
+  law-blanks : execute row passBlanks s t ≡ passBlanksBody row (execute row) s t
+  unfolding body
+  law-blanks = unfold-execute row passBlanks s t rd
+
+  pub blanks-ends : {x : Ending} {u : State} {t′ : List ℕ} → execute row (goodLine true false) s t ≡ ends x u t′ → execute row passBlanks s t ≡ ends x u t′
+  unfolding passBlanksBody
+  blanks-ends h = law-blanks ∙ bind-ends _ _ s t h
+
+  module _ {b : State} {t₁ : List ℕ} (f : execute row (goodLine true false) s t ≡ done tt b t₁) {c : ℕ} (e : c ≡ getD t₁ (characterIndex (shapeOf b) (here b)) 0) where
+    blanks-done : Done row (goodLine true false) s b
+    blanks-done = done-of row (goodLine true false) t blanks-line f
+
+    pub blanks-from : From row passBlanks s b
+    blanks-from = from-gain b rd (blanks-done .valid) (blanks-done .took) (blanks-done .claim .0)
+
+    pub blanks-stay : (c ≡ 32 → ⊥) → {x : Outcome} → x ≡ doneBy (b .run) → outcomeAt x b t₁ ≡ execute row passBlanks s t
+    unfolding passBlanksBody pure
+    blanks-stay z h = outcome-is b t₁ h ∙ sym (law-blanks ∙ bind-done _ _ s t f ∙ character-then _ b t₁ e ∙ branch-false _ _ b t₁ (ne-eqb c 32 z))
+
+    module _ (z : c ≡ 32) {y : Run} (hy : y ≡ movedTo (b .run) (nextCharacter (here b))) where
+      pub blanks-again : execute row passBlanks s t ≡ execute row passBlanks (onRun b y) t₁
+      unfolding passBlanksBody
+      blanks-again = law-blanks ∙ bind-done _ _ s t f ∙ character-then _ b t₁ e ∙ branch-true _ _ b t₁ (eq-eqb c 32 z) ∙ change-then _ _ b t₁ ∙ ap (λ (r : Run). execute row passBlanks (onRun b r) t₁) (sym hy)
+
+      pub blanks-on : On row b (onRun b y)
+      blanks-on = subst (λ (r : Run). On row b (onRun b r)) (sym hy) (passed-on b (blanks-done .valid) (blanks-done .took) (blanks-done .claim .1))
+
+-- ---- the first digit: b stands at s
+
+module _ (row : List ℕ) (s : State) (t : List ℕ) {b : ℕ} (e : b ≡ getD t (characterIndex (shapeOf s) (here s)) 0) where
+  law-first : firstDigit row s t ≡ branch (digit b) (pure b) (characterEvent row (execute row) true 48 >>= λ c. branch (digit c) (pure c) (refuseAt Event.character 8)) (passed s) t
+  unfolding firstDigit
+  law-first = character-then _ s t e ∙ change-then _ _ s t
+
+  pub first-there : digit b ≡ true → firstDigit row s t ≡ done b (passed s) t
+  unfolding pure
+  first-there h = law-first ∙ branch-true _ _ (passed s) t h
+
+  module _ (h : digit b ≡ false) where
+    law-suggested : firstDigit row s t ≡ (characterEvent row (execute row) true 48 >>= λ c. branch (digit c) (pure c) (refuseAt Event.character 8)) (passed s) t
+    law-suggested = law-first ∙ branch-false _ _ (passed s) t h
+
+    pub first-ends : {x : Ending} {u : State} {t′ : List ℕ} → characterEvent row (execute row) true 48 (passed s) t ≡ ends x u t′ → firstDigit row s t ≡ ends x u t′
+    first-ends f = law-suggested ∙ bind-ends _ _ (passed s) t f
+
+    module _ {c : ℕ} {u : State} {t′ : List ℕ} (f : characterEvent row (execute row) true 48 (passed s) t ≡ done c u t′) where
+      pub first-suggested : digit c ≡ true → firstDigit row s t ≡ done c u t′
+      unfolding pure
+      first-suggested k = law-suggested ∙ bind-done _ _ (passed s) t f ∙ branch-true _ _ u t′ k
+
+      pub first-refused : digit c ≡ false → firstDigit row s t ≡ ends (refusal 8) u t′
+      unfolding halt
+      first-refused k = law-suggested ∙ bind-done _ _ (passed s) t f ∙ branch-false _ _ u t′ k
+
+pub first-post : (row : List ℕ) (self : Action) (s : State) → Ready row self s → 1 ≤ stage self → LineGood true s → (t : List ℕ) → Post (Ended row self s) (λ c u. On row s u × (digit c ≡ true)) (firstDigit row s t)
+unfolding firstDigit
+first-post row self s rd h g t = (at-character {R = λ c u. On row s u × (digit c ≡ true)} s t λ b. at-first _ s t λ _. at-branch (digit b)
+    (λ k. at-pure _ b (passed-on s (rd .valid) (rd .took) g, k))
+    (λ _. at-bind (post-at (passed-event row self s rd h g 48 t)) λ c u t o. at-branch (digit c)
+    (λ k. at-pure _ c (o, k))
+    (λ _. at-halt (refusal 8) (ended-on 15 row self self s u _ u (o .gain) (omega arith) (ended-here row self u (refusal 8) (ready-on row self s rd u (o .valid) (o .took) (gain-less (omega arith) (o .gain))) (omega arith)))))) .post
+
+-- ---- more digits: v is the value so far
+
+module _ (row : List ℕ) (v : ℕ) (s : State) (t : List ℕ) (rd : Ready row (moreDigits v) s) where
+  pub more-line : Ready row (goodLine true true) s
+  more-line = site-lower row (moreDigits v) s rd (goodLine true true) (omega arith) .0
+
+  law-more : execute row (moreDigits v) s t ≡ moreDigitsBody row (execute row) v s t
+  unfolding body
+  law-more = unfold-execute row (moreDigits v) s t rd
+
+  module _ {x : Ending} {u : State} {t′ : List ℕ} (f : execute row (goodLine true true) s t ≡ ends x u t′) where
+    law-stopped : execute row (moreDigits v) s t ≡ branch (isStop x) (pure v) (halt x) u t′
+    unfolding moreDigitsBody
+    law-stopped = law-more ∙ attempt-ends _ _ _ s t (bind-ends _ _ s t f)
+
+    pub more-stops : isStop x ≡ true → execute row (moreDigits v) s t ≡ done v u t′
+    unfolding pure
+    more-stops h = law-stopped ∙ branch-true _ _ u t′ h
+
+    pub more-ends : isStop x ≡ false → execute row (moreDigits v) s t ≡ ends x u t′
+    unfolding halt
+    more-ends h = law-stopped ∙ branch-false _ _ u t′ h
+
+  module _ {b : State} {t₁ : List ℕ} (f : execute row (goodLine true true) s t ≡ done tt b t₁) {c : ℕ} (e : c ≡ getD t₁ (characterIndex (shapeOf b) (here b)) 0) where
+    more-done : Done row (goodLine true true) s b
+    more-done = done-of row (goodLine true true) t more-line f
+
+    pub more-from : From row (moreDigits v) s b
+    more-from = from-gain b rd (more-done .valid) (more-done .took) (more-done .claim .0)
+
+    law-seen : execute row (moreDigits v) s t ≡ branch (digit c) (pass >>= λ _. execute row (moreDigits (v * 10 + (c - 48)))) (pure v) b t₁
+    unfolding moreDigitsBody characterHere
+    law-seen = law-more ∙ attempt-done _ _ _ s t (bind-done _ _ s t f) ∙ ap (λ (k : ℕ). branch (digit k) (pass >>= λ _. execute row (moreDigits (v * 10 + (k - 48)))) (pure v) b t₁) (sym e)
+
+    pub more-stays : digit c ≡ false → execute row (moreDigits v) s t ≡ done v b t₁
+    unfolding pure
+    more-stays h = law-seen ∙ branch-false _ _ b t₁ h
+
+    module _ (h : digit c ≡ true) {y : Run} (hy : y ≡ movedTo (b .run) (nextCharacter (here b))) where
+      pub more-again : execute row (moreDigits v) s t ≡ execute row (moreDigits (v * 10 + (c - 48))) (onRun b y) t₁
+      more-again = law-seen ∙ branch-true _ _ b t₁ h ∙ change-then _ _ b t₁ ∙ ap (λ (r : Run). execute row (moreDigits (v * 10 + (c - 48))) (onRun b r) t₁) (sym hy)
+
+      pub more-on : On row b (onRun b y)
+      more-on = subst (λ (r : Run). On row b (onRun b r)) (sym hy) (passed-on b (more-done .valid) (more-done .took) (more-done .claim .1))
+
+-- ---- what is given
+
+pub capped-more : (v d : ℕ) → capped v ≤ 2147483647 → capped (v * 10 + d) ≡ capped (capped v * 10 + d)
+capped-more v d h = split (leb v 2147483647)
+    (λ e. ap (λ (n : ℕ). capped (n * 10 + d)) (sym (ap (λ (b : Bool). choose b v 2147483648) e)))
+    (λ e. absurd (omega (arith, h, ap (λ (b : Bool). choose b v 2147483648) e)))
+
+pub capped-stays : (v d : ℕ) → 2147483647 < capped v → capped (v * 10 + d) ≡ capped v
+capped-stays v d h = split (leb v 2147483647)
+    (λ e. absurd (omega (arith, h, ap (λ (b : Bool). choose b v 2147483648) e, leb-true v 2147483647 e)))
+    (λ e. rw (e, lt-leb (v * 10 + d) 2147483647 (omega (arith, leb-false v 2147483647 e))))
+
+pub given-capped : (row : List ℕ) (minus : Bool) (v : ℕ) (s : State) (t : List ℕ) → integerGiven row minus v s t ≡ integerGiven row minus (capped v) s t
+unfolding integerGiven branch
+given-capped row minus v s t = split (leb v 2147483647) (λ e. rw (e, e)) (λ e. rw e)
