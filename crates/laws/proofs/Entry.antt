@@ -12,7 +12,7 @@ use Rattle.rules.specs.Steps.{Action, spent, supply, stage}
 use Rattle.rules.specs.Ready.{InBounds, Rules, Valid, Ready}
 use Rattle.laws.proofs.Order.{and-l, and-r, no}
 use Rattle.laws.proofs.Validity.{near-in, before-false, in-bounds}
-use Rattle.laws.proofs.Progress.{stage-le}
+use Rattle.laws.proofs.Progress.{Gain, Answered, spent-le, stage-le}
 
 pub all-getD : (most : ℕ) (xs : List ℕ) (j : ℕ) → T (allUpTo most xs) → getD xs j 0 ≤ most
 unfolding allUpTo
@@ -91,3 +91,13 @@ ready-any row action s v h t e = record { valid = v; took = t; room = omega (ari
 
 pub call-ready : (row : List ℕ) (action : Action) (n : ℕ) (s : State) → T (allFits n s) → T (rowFits row) → s .run .taken ≡ 0 → s .run .events ≡ 0 → Ready row action s
 call-ready row action n s q r t e = ready-any row action s (fits-facts n s q .valid) (row-short row r) (omega (arith, t)) (omega (arith, e))
+
+-- ---- how many events an action adds at most, in a row that refusal 2 lets through
+
+module _ (n : ℕ) (s u : State) (short : n ≤ 64) (v : Valid u) (took : u .run .taken ≤ n) where
+  pub gain-events : {k : ℕ} → Gain k (s .run) (u .run) → u .run .events ≤ s .run .events + 2 ^ 42
+  unfolding supply
+  gain-events g = omega (arith, g .gains, spent-le u n v took, short)
+
+  pub answered-events : Answered (s .run) (u .run) → u .run .events ≤ s .run .events + 2 ^ 42
+  answered-events g = omega (arith, g .gains, took, short)

@@ -39,6 +39,9 @@ passed s = onRun s (movedTo (s .run) (nextCharacter (here s)))
 pub passed-ready : (row : List ℕ) (action : Action) (s : State) → Ready row action s → LineGood true s → Ready row action (passed s)
 passed-ready row action s rd g = ready-on row action s rd (passed s) (pass-valid s (rd .valid) (good-before s (g .0 .0)) (g .1)) (rd .took) (gain-less (omega arith) (pass-gain s))
 
+pub passed-then : {row : List ℕ} {action : Action} {s : State} → Ready row action s → LineGood true s → {y : Run} → y ≡ movedTo (s .run) (nextCharacter (here s)) → Ready row action (onRun s y)
+passed-then {row} {action} {s} rd g e = subst (λ (r : Run). Ready row action (onRun s r)) (sym e) (passed-ready row action s rd g)
+
 -- ---- a character taken: b stands at s
 
 module _ (row : List ℕ) (s : State) (t : List ℕ) {b : ℕ} (e : b ≡ getD t (characterIndex (shapeOf s) (here s)) 0) where

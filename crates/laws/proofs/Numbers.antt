@@ -13,18 +13,19 @@ use Rattle.rules.specs.declared.Run.{Run}
 use Rattle.rules.specs.declared.Ending.{Ending}
 use Rattle.rules.specs.declared.Outcome.{Outcome}
 use Rattle.rules.specs.Book.{choose, within, nextCharacter, characterIndex, State, onRun, here, shapeOf, lineHere, movedTo, Event}
-use Rattle.rules.specs.Step.{Out, done, ends, Step, _>>=_, pure, halt, refuse, refuseAt, refusal, attempt, test, need, branch, pass, characterHere, outcomeGiving, outcome, doneBy, refusedBy}
+use Rattle.rules.specs.Step.{Out, done, ends, Step, _>>=_, andThen, pure, change, halt, refuse, refuseAt, refusal, attempt, test, need, branch, pass, characterHere, outcomeGiving, outcome, doneBy, refusedBy}
 use Rattle.rules.specs.Steps.{Action, goodLine, atLineEnd, putCharacter, roomFor, passBlanks, moreDigits, printable, digit, fitsHere, isStop, signals, signalWhile, characterEvent, roomForBody, passBlanksBody, moreDigitsBody, body, stage, measure, execute}
 use Rattle.rules.specs.Whole.{digitsUpTo, digits, signed, padded, wholeText}
-use Rattle.rules.specs.Calls.{Value, nothing, anInteger, putCharacters, putText, firstDigit, withSign, integerGiven}
+use Rattle.rules.specs.Calls.{Value, nothing, anInteger, putCharacters, putText, firstDigit, withSign, integerGiven, signBefore, takeInteger}
 use Rattle.laws.specs.Runs.{storedBy, every}
-use Rattle.laws.specs.Capped.{capped}
+use Rattle.laws.specs.Capped.{capped, withCap}
+use Rattle.laws.specs.Follow.{followed}
 use Rattle.laws.proofs.Order.{split}
 use Rattle.laws.proofs.Validity.{Valid, Near, near-at}
 use Rattle.laws.proofs.Progress.{Gain, Ready, LineGood, Done, Site, site-lower, ready-as, ready-on, gain-less, gain-trans, From, from-start, from-gain}
-use Rattle.laws.proofs.Walk.{Ended, Post, At, at-pure, at-halt, at-bind, at-branch, at-weak, at-first, at-character, ended-here, ended-on, pass-gain}
-use Rattle.laws.proofs.Unfolding.{On, unfold-execute}
-use Rattle.laws.proofs.Ways.{bind-done, bind-ends, attempt-done, attempt-ends, branch-true, branch-false, test-true, test-false, need-true, need-false, change-then, outcomeAt, outcome-is, post-done-of, done-of, from-lower, while-stays, while-ends, while-again}
+use Rattle.laws.proofs.Walk.{Ended, Post, At, at-pure, at-change, at-halt, at-bind, at-branch, at-weak, at-first, at-character, ended-here, ended-on, pass-gain}
+use Rattle.laws.proofs.Unfolding.{On, unfold-execute, execute-post}
+use Rattle.laws.proofs.Ways.{bind-done, bind-ends, attempt-done, attempt-ends, branch-true, branch-false, test-true, test-false, need-true, need-false, change-then, outcomeAt, outcome-is, post-done-of, done-of, with-value, same-then, Asked, signals-default, signals-followed, from-lower, while-stays, while-ends, while-again}
 use Rattle.laws.proofs.Lines.{stored-is}
 use Rattle.laws.proofs.Runs.{All, none, also, all-of, both-true, any-character, put-one, put-run, good-on, one-ready}
 use Rattle.laws.proofs.Gets.{character-then, passed, passed-ready, passed-on, passed-event, post-at, on-further}
@@ -180,7 +181,7 @@ module _ (row text : List ℕ) (s : State) (t : List ℕ) (rd : Ready row (roomF
       unfolding putText
       after-blank = bind-done _ _ s t f ∙ bind-done _ _ b t₁ (test-false _ _ _ b t₁ (ne-eqb (here b .character) 1 c) ∙ put-one row 32 b t₁ put-ready (room-done .claim .1 .0) blank-printable ∙ sym (stored-is b t₁ 32 hy ht))
 
-      blank-ready : Ready row (putCharacter 32) (onRun b y)
+      pub blank-ready : Ready row (putCharacter 32) (onRun b y)
       blank-ready = subst (λ (r : Run). Ready row (putCharacter 32) (onRun b r)) (sym hy) (one-ready row 32 b t₁ put-ready (room-done .claim .1 .0) blank-printable)
 
       pub text-after : {z : Run} {t′ : List ℕ} → z ≡ storedBy (length text) y → t′ ≡ sets t₂ (characterIndex (y .file .shape) (y .file .position)) text → {x : Outcome} → x ≡ doneBy z → outcomeAt x b t′ ≡ putText row text s t
@@ -320,3 +321,96 @@ capped-stays v d h = split (leb v 2147483647)
 pub given-capped : (row : List ℕ) (minus : Bool) (v : ℕ) (s : State) (t : List ℕ) → integerGiven row minus v s t ≡ integerGiven row minus (capped v) s t
 unfolding integerGiven branch
 given-capped row minus v s t = split (leb v 2147483647) (λ e. rw (e, e)) (λ e. rw e)
+
+-- steps that do the same, each from where it is, do the same in front of a further one
+same-at : {A B : Type 0} (f g : Step A) (k : A → Step B) {s s′ : State} {t t′ : List ℕ} → f s t ≡ g s′ t′ → (f >>= k) s t ≡ (g >>= k) s′ t′
+unfolding _>>=_
+same-at f g k h = ap (andThen k) h
+
+module _ (row : List ℕ) (minus : Bool) (v : ℕ) (s : State) (t : List ℕ) where
+  pub given-there : v ≤ 2147483647 → integerGiven row minus v s t ≡ done (anInteger (withSign minus v)) s t
+  unfolding integerGiven pure
+  given-there h = branch-true _ _ s t (le-leb v 2147483647 h)
+
+  module _ (h : 2147483647 < v) {w k : ℕ} {u : Run} (q : Asked row s w k u) where
+    law-above : integerGiven row minus v s t ≡ (signals row (execute row) Event.value true (refuseAt Event.value 9) >>= λ _. pure nothing) s t
+    unfolding integerGiven
+    law-above = branch-false _ _ s t (lt-leb v 2147483647 h)
+
+    pub given-refused : k ≡ 0 → integerGiven row minus v s t ≡ ends (refusal 9) (onRun s u) t
+    unfolding halt
+    given-refused z = law-above ∙ bind-ends _ _ s t (signals-default row Event.value true _ t q z)
+
+    pub given-none : (k ≡ 0 → ⊥) → (o : Outcome) (t′ l p : List ℕ) → outcome o t′ l p ≡ followed row true w (onRun s u) t → outcomeGiving nothing o t′ l p ≡ integerGiven row minus v s t
+    given-none z o t′ l p f = with-value nothing o t′ l p (followed row true w) (onRun s u) t f ∙ sym (law-above ∙ same-at _ _ _ (signals-followed row Event.value true _ t q z))
+
+-- ---- blanks, a sign, and blanks: b is where the first blanks end, c stands there
+
+module _ (row : List ℕ) (s : State) (t : List ℕ) where
+  pub sign-ends : {x : Ending} {u : State} {t′ : List ℕ} → execute row passBlanks s t ≡ ends x u t′ → signBefore row s t ≡ ends x u t′
+  unfolding signBefore
+  sign-ends h = bind-ends _ _ s t h
+
+  module _ {b : State} {t₁ : List ℕ} (f : execute row passBlanks s t ≡ done tt b t₁) {c : ℕ} (e : c ≡ getD t₁ (characterIndex (shapeOf b) (here b)) 0) where
+    law-sign : signBefore row s t ≡ (branch (eqb c 43 || eqb c 45) pass (pure tt) >>= λ _. execute row passBlanks >>= λ _. pure (eqb c 45)) b t₁
+    unfolding signBefore
+    law-sign = bind-done _ _ s t f ∙ character-then _ b t₁ e
+
+    pub sign-shown : (eqb c 43 || eqb c 45) ≡ true → {y : Run} → y ≡ movedTo (b .run) (nextCharacter (here b)) → signBefore row s t ≡ (execute row passBlanks >>= λ _. pure (eqb c 45)) (onRun b y) t₁
+    unfolding change
+    sign-shown h hy = law-sign ∙ bind-done _ _ b t₁ (branch-true _ _ b t₁ h) ∙ ap (λ (r : Run). (execute row passBlanks >>= λ _. pure (eqb c 45)) (onRun b r) t₁) (sym hy)
+
+    pub sign-none : (eqb c 43 || eqb c 45) ≡ false → signBefore row s t ≡ (execute row passBlanks >>= λ _. pure (eqb c 45)) b t₁
+    unfolding pure
+    sign-none h = law-sign ∙ bind-done _ _ b t₁ (branch-false _ _ b t₁ h)
+
+-- what it leaves: a good line
+pub sign-post : (row : List ℕ) (s : State) (t : List ℕ) → Ready row passBlanks s → Post (Ended row passBlanks s) (λ _ u. Done row passBlanks s u) (signBefore row s t)
+unfolding signBefore
+sign-post row s t rd =
+    (at-bind (post-at (execute-post row passBlanks s t rd)) λ _ b t d.
+    let m = from-gain b rd (d .valid) (d .took) (d .claim .0) in
+    at-character b t λ c.
+    at-bind {Q = λ _ u. Valid u × (u .run .taken ≤ length row) × Gain 0 (s .run) (u .run)} (at-branch (eqb c 43 || eqb c 45)
+    (λ _. let o = passed-on {row = row} b (d .valid) (d .took) (d .claim .1) in at-change _ _ (o .valid, o .took, gain-less (omega arith) (gain-trans (d .claim .0) (o .gain))))
+    (λ _. at-pure _ tt (d .valid, d .took, d .claim .0))) λ _ u t w.
+    let k = ready-on row passBlanks s rd u (w .0) (w .1) (w .2) in
+    at-bind {Q = λ _ v. Done row passBlanks s v} (at-weak (λ e v x. ended-on 0 row passBlanks passBlanks s u e v (w .2) (omega arith) x) (λ _ v x. record { valid = x .valid; took = x .took; claim = (gain-trans (w .2) (x .claim .0), x .claim .1) }) (post-at (execute-post row passBlanks u t k))) λ _ v t x.
+    at-pure _ (eqb c 45) x) .post
+
+-- ---- an integer taken
+
+-- outcomes that are the same are done with the same
+done-same : {A B : Type 0} {a a′ : A} {s s′ : State} {t t′ : List ℕ} → done a s t ≡ done a′ s′ t′ → (k : A → Step B) → k a s t ≡ k a′ s′ t′
+done-same {a = a} {s = s} {t = t} h k = ap (andThen k) h
+
+module _ (row : List ℕ) (s : State) (t : List ℕ) where
+  pub integer-ends : {x : Ending} {u : State} {t′ : List ℕ} → signBefore row s t ≡ ends x u t′ → takeInteger row s t ≡ ends x u t′
+  unfolding takeInteger
+  integer-ends h = bind-ends _ _ s t h
+
+  module _ {minus : Bool} {b : State} {t₁ : List ℕ} (f : signBefore row s t ≡ done minus b t₁) where
+    pub first-halts : {x : Ending} {u : State} {t′ : List ℕ} → firstDigit row b t₁ ≡ ends x u t′ → takeInteger row s t ≡ ends x u t′
+    unfolding takeInteger
+    first-halts h = bind-done _ _ s t f ∙ bind-ends _ _ b t₁ h
+
+    module _ {d : ℕ} {u : State} {t₂ : List ℕ} (g : firstDigit row b t₁ ≡ done d u t₂) where
+      pub more-halts : {x : Ending} {v : State} {t′ : List ℕ} → withCap (execute row (moreDigits (d - 48)) u t₂) ≡ ends x v t′ → takeInteger row s t ≡ ends x v t′
+      unfolding takeInteger
+      more-halts h = bind-done _ _ s t f ∙ bind-done _ _ b t₁ g ∙ bind-ends _ _ u t₂ (uncapped (execute row (moreDigits (d - 48)) u t₂) h)
+        where
+          uncapped : (o : Out ℕ) {x : Ending} {v : State} {t′ : List ℕ} → withCap o ≡ ends x v t′ → o ≡ ends x v t′
+          uncapped (done n v t) h = absurd (let z : _≡_ {A = ℕ} 0 1 = cc in omega arith)
+          uncapped (ends x v t) h = h
+
+      law-given : takeInteger row s t ≡ (execute row (moreDigits (d - 48)) >>= integerGiven row minus) u t₂
+      unfolding takeInteger
+      law-given = bind-done _ _ s t f ∙ bind-done _ _ b t₁ g
+
+      pub integer-is : {n : ℕ} {v : State} {t′ : List ℕ} → withCap (execute row (moreDigits (d - 48)) u t₂) ≡ done n v t′ → takeInteger row s t ≡ integerGiven row minus n v t′
+      unfolding _>>=_
+      integer-is h = law-given ∙ given-of (execute row (moreDigits (d - 48)) u t₂) h
+        where
+          given-of : (o : Out ℕ) {n : ℕ} {v : State} {t′ : List ℕ} → withCap o ≡ done n v t′ → andThen (integerGiven row minus) o ≡ integerGiven row minus n v t′
+          given-of (done n v t) h = given-capped row minus n v t ∙ done-same h (integerGiven row minus)
+          given-of (ends x v t) h = absurd (let z : _≡_ {A = ℕ} 0 1 = cc in omega arith)

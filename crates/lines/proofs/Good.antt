@@ -28,6 +28,9 @@ good-facts r s h = go (fileEnded r (s .run)) (pageEnded (s .run) (s .lengths .pa
     go false false true p = absurd (no p)
     go false false false p = ((refl, refl), refl)
 
+pub good-back : (r : Bool) (s : State) → LineGood r s → lineGood r s ≡ true
+good-back r s g = rw (g .0 .0, g .0 .1, g .1)
+
 pub or-true : (a b : Bool) → a ≡ true → (a || b) ≡ true
 or-true a b e = rw e
 

@@ -20,7 +20,7 @@ use Rattle.rules.specs.Step.{refusal, stopped, finished, _>>=_, pure, ha
 use Rattle.rules.specs.Steps.{printable, digit, fitsHere, signals, signalWhile, goodFileBody, goodPageBody, atPageEndBody, goodLineBody, atLineEndBody, newlineBody, newpageBody, setToBody, performBody, answeredBody, characterEvent, putCharacterBody, roomForBody, passBlanksBody, moreDigitsBody, spaceStep, setCharacterNumberBody, body, spent, supply, bounded, execute}
 use Rattle.rules.specs.Steps as Steps
 use Rattle.rules.specs.Whole.{digitsUpTo, signed, padded, wholeText, lowest, Written, whole}
-use Rattle.rules.specs.Calls.{Value, nothing, aCharacter, anInteger, aView, aString, begin, turnable, established, establishing, opening, closing, resetting, backspacing, shown, shownLength, shownPart, orMarker, viewing, viewNumber, putCharacters, puttingString, putText, puttingInteger, takeCharacter, gettingCharacter, oneOf, stringCharacter, getCharacters, gettingString, firstDigit, withSign, integerGiven, gettingInteger, spacing, newlining, newpaging, settingCharacterNumber, setting, Call, plain, asking, establishes, opens, closes, resets, backspaces, views, viewNumbers, putsCharacter, putsString, putsInteger, getsCharacter, getsInteger, spaces, newlines, newpages, getsString, sets, setsCharacterNumber, plainWork, askingWork, work, bufferOf, Book, book, Result, After, Ran, leave, call, run}
+use Rattle.rules.specs.Calls.{Value, nothing, aCharacter, anInteger, aView, aString, begin, turnable, established, establishing, opening, closing, resetting, backspacing, shown, shownLength, shownPart, orMarker, viewing, viewNumber, putCharacters, puttingString, putText, puttingInteger, takeCharacter, gettingCharacter, oneOf, stringCharacter, getCharacters, gettingString, firstDigit, withSign, integerGiven, signBefore, takeInteger, gettingInteger, spacing, newlining, newpaging, settingCharacterNumber, setting, Call, plain, asking, establishes, opens, closes, resets, backspaces, views, viewNumbers, putsCharacter, putsString, putsInteger, getsCharacter, getsInteger, spaces, newlines, newpages, getsString, sets, setsCharacterNumber, plainWork, askingWork, work, bufferOf, Book, book, Result, After, Ran, leave, call, run}
 
 -- ---- books, records and calls in short
 
@@ -243,7 +243,7 @@ Refused = (after (asking newlines (0x90000000 ∷ []) ∷ []) .result ≡ says 1
 
 pub table : (E1 × E2 × E3 × E4 × E5 × E6 × E7 × E8 × E9 × E10 × E11 × Shown)
     × (FileFirst × Filled × FilledPage × CutPage × CutPageBefore × Afresh × Nested × Jumped × Read × TooLarge × SetBeyond × ViewToEnd × Refused)
-unfolding within before pageLength lineIndex lineLength characterIndex inBounds nextWord kindOf placeOf mendingOf answerOf suggested wordFits allWordsFit rowFits legal sizesFit allUpTo lengthsFit someRight moodsFit shapeFits bookFits allFits _>>=_ pure halt attempt look change branch test fileEnded signal moodOn backspace reset characterHere size store blanks blankLine blankLines cutLine cutPage fillLine fillPage endLine endPage printable digit fitsHere Steps.backspaces signals signalWhile goodFileBody goodPageBody atPageEndBody goodLineBody atLineEndBody newlineBody newpageBody setToBody performBody answeredBody characterEvent putCharacterBody roomForBody passBlanksBody moreDigitsBody spaceStep setCharacterNumberBody body spent supply bounded execute digitsUpTo signed padded wholeText lowest whole begin turnable established establishing opening closing resetting backspacing shown shownLength shownPart orMarker viewing viewNumber putCharacters puttingString putText puttingInteger takeCharacter gettingCharacter oneOf stringCharacter getCharacters gettingString firstDigit withSign integerGiven gettingInteger spacing newlining newpaging settingCharacterNumber setting plainWork askingWork work bufferOf leave call run
+unfolding within before pageLength lineIndex lineLength characterIndex inBounds nextWord kindOf placeOf mendingOf answerOf suggested wordFits allWordsFit rowFits legal sizesFit allUpTo lengthsFit someRight moodsFit shapeFits bookFits allFits _>>=_ pure halt attempt look change branch test fileEnded signal moodOn backspace reset characterHere size store blanks blankLine blankLines cutLine cutPage fillLine fillPage endLine endPage printable digit fitsHere Steps.backspaces signals signalWhile goodFileBody goodPageBody atPageEndBody goodLineBody atLineEndBody newlineBody newpageBody setToBody performBody answeredBody characterEvent putCharacterBody roomForBody passBlanksBody moreDigitsBody spaceStep setCharacterNumberBody body spent supply bounded execute digitsUpTo signed padded wholeText lowest whole begin turnable established establishing opening closing resetting backspacing shown shownLength shownPart orMarker viewing viewNumber putCharacters puttingString putText puttingInteger takeCharacter gettingCharacter oneOf stringCharacter getCharacters gettingString firstDigit withSign integerGiven signBefore takeInteger gettingInteger spacing newlining newpaging settingCharacterNumber setting plainWork askingWork work bufferOf leave call run
 table = (
   (refl, refl, refl, refl, refl, refl, refl, refl, (refl, refl, refl, refl), (refl, refl), (refl, refl), (refl, refl, refl, refl)),
   (refl, refl, refl, refl, refl, refl, refl, refl, refl, refl, refl, (refl, refl), (refl, refl, refl, refl, refl, refl)),

@@ -233,18 +233,28 @@ module _ (row : List ℕ) where
         signals row (execute row) Event.value true (refuseAt Event.value 9)
         pure nothing)
 
-  -- "Get an integer: good line and pass blanks; an optional sign; the same for blanks; then a digit. .. More digits as long as they come"
-  unfoldable pub gettingInteger : Step Value
-  gettingInteger = begin do
-    needRow row
-    getting
+  -- "good line and pass blanks; an optional sign; the same for blanks": whether the sign is "-"
+  unfoldable pub signBefore : Step Bool
+  signBefore = do
     execute row passBlanks
     b ← characterHere
     branch (eqb b 43 || eqb b 45) pass (pure tt)
     execute row passBlanks
+    pure (eqb b 45)
+
+  -- "Get an integer: .. an optional sign .. then a digit. .. More digits as long as they come .."
+  unfoldable pub takeInteger : Step Value
+  takeInteger = do
+    minus ← signBefore
     d ← firstDigit
     v ← execute row (moreDigits (d - 48))
-    integerGiven (eqb b 45) v
+    integerGiven minus v
+
+  unfoldable pub gettingInteger : Step Value
+  gettingInteger = begin do
+    needRow row
+    getting
+    takeInteger
 
   -- "Space, newline, newpage and set char number need a mood; backspace and set do not."
   abbrev pub inMoodOn : (Bool → Step Unit) → Step Value

@@ -15,7 +15,6 @@ use Rattle.rules.specs.Ready.{Valid}
 use Rattle.rules.specs.Calls.{oneOf}
 use Rattle.laws.specs.Runs.{every, ordinary}
 use Rattle.laws.proofs.Validity.{same-line, next-line-le}
-use Rattle.laws.proofs.Progress.{LineGood}
 use Rattle.places.specs.Good.{lineGood}
 use Rattle.strings.specs.Parts.{Room}
 
@@ -94,8 +93,3 @@ ordinary-as ts b e h = rw (e, h)
 pub ordinary-not : (ts : List ℕ) (b : ℕ) → printable b ≡ false → false ≡ ordinary ts b
 unfolding ordinary
 ordinary-not ts b e = rw e
-
--- ---- a good line, as the code tests it
-
-pub good-back : (reading : Bool) (s : State) → LineGood reading s → lineGood reading s ≡ true
-good-back reading s g = rw (g .0 .0, g .0 .1, g .1)

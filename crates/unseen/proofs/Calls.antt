@@ -21,7 +21,7 @@ use Rattle.rules.specs.Book.{choose, place, before, within, inBounds, Lengths, 
 use Rattle.rules.specs.Step.{Out, done, ends, Step, _>>=_, andThen, caught, pure, halt, refuse, refusal, stopped, attempt, look, change, changeRun, branch, test, need, again, pass, moodOn, backspace, reset, size}
 use Rattle.rules.specs.Steps.{Action, Gives, goodLine, newline, newpage, setTo, putCharacter, roomFor, passBlanks, moreDigits, setCharacterNumber, printable, digit, execute}
 use Rattle.rules.specs.Whole.{wholeText, lowest}
-use Rattle.rules.specs.Calls.{Value, nothing, aCharacter, anInteger, aView, aString, begin, needRow, turnable, turn, putting, getting, established, establishing, opening, closing, resetting, backspacing, shown, shownLength, shownPart, orMarker, viewing, viewNumber, putCharacters, puttingString, putText, puttingInteger, takeCharacter, gettingCharacter, oneOf, stringCharacter, getCharacters, gettingString, firstDigit, withSign, integerGiven, gettingInteger, inMoodOn, spacing, newlining, newpaging, settingCharacterNumber, setting, Plain, establishes, opens, closes, resets, backspaces, views, viewNumbers, Asking, putsCharacter, putsString, putsInteger, getsCharacter, getsInteger, spaces, newlines, newpages, getsString, sets, setsCharacterNumber, Call, plain, asking, plainWork, askingWork, work}
+use Rattle.rules.specs.Calls.{Value, nothing, aCharacter, anInteger, aView, aString, begin, needRow, turnable, turn, putting, getting, established, establishing, opening, closing, resetting, backspacing, shown, shownLength, shownPart, orMarker, viewing, viewNumber, putCharacters, puttingString, putText, puttingInteger, takeCharacter, gettingCharacter, oneOf, stringCharacter, getCharacters, gettingString, firstDigit, withSign, integerGiven, signBefore, takeInteger, gettingInteger, inMoodOn, spacing, newlining, newpaging, settingCharacterNumber, setting, Plain, establishes, opens, closes, resets, backspaces, views, viewNumbers, Asking, putsCharacter, putsString, putsInteger, getsCharacter, getsInteger, spaces, newlines, newpages, getsString, sets, setsCharacterNumber, Call, plain, asking, plainWork, askingWork, work}
 use Rattle.rules.specs.Alike.{Seen}
 use Rattle.laws.proofs.Order.{yes, and-l, and-r, not-and, neqb→neq, Lt, by-page, by-line, by-character, Le, le-page, le-line, le-character, before→Lt, Lt→before, nbefore→Le}
 use Rattle.laws.proofs.Entry.{all-getD, Legal, legal-facts, Sizes, sizes-facts, Fits, fits-facts}
@@ -245,10 +245,25 @@ module _ {R : Rights} {L : Lengths} where
         sim-branch (digit b) (λ _. sim-pure Free b)
         (λ _. sim-bind (sim-characterEvent row (execute row) (sim-execute row) true 48 a) λ c. sim-branch (digit c) (λ _. sim-pure Free c) (λ _. sim-halt (refusal 8)))
 
+    sim-signBefore : Right R true → Sim R L Any (signBefore row) (λ _ s. LineOk true s)
+    unfolding signBefore
+    sim-signBefore a = sim-bind (sim-execute row passBlanks a) λ _.
+        sim-bind sim-character λ b.
+        sim-bind {Q = Free} (sim-branch (eqb b 43 || eqb b 45) (λ _. sim-passOk) (λ _. from (sim-pure Free tt))) λ _.
+        sim-bind (sim-execute row passBlanks a) λ _.
+        sim-pure (λ _ s. LineOk true s) (eqb b 45)
+
     sim-integerGiven : (minus : Bool) (v : ℕ) → Right R true → Safe R L (integerGiven row minus v)
     unfolding integerGiven
     sim-integerGiven minus v a = sim-branch (leb v 2147483647) (λ _. sim-pure Free (anInteger (withSign minus v)))
         (λ _. sim-bind (sim-signals row (execute row) (sim-execute row) Event.value true a (sim-halt (refusal 9))) λ _. sim-pure Free nothing)
+
+    sim-takeInteger : Right R true → Safe R L (takeInteger row)
+    unfolding takeInteger
+    sim-takeInteger a = sim-bind (sim-signBefore a) λ minus.
+        sim-bind (sim-firstDigit a) λ d.
+        sim-bind (sim-execute row (moreDigits (d - 48)) a) λ v.
+        sim-integerGiven minus v a
 
 -- the mood of a set, if one is on, has its right
 rights-by : (R : Rights) (r w : Bool) → Moods r w R → T (r || w) → Right R r
@@ -280,14 +295,7 @@ module _ (row : List ℕ) (s : State) where
 
   loose-gettingInteger : LooseAt false s (gettingInteger row)
   unfolding gettingInteger
-  loose-gettingInteger = loose-begin s (row-then row (sim-bind sim-getting λ _. given (λ a.
-      sim-bind (sim-execute row passBlanks a) λ _.
-      sim-bind sim-character λ b.
-      sim-bind {Q = Free} (sim-branch (eqb b 43 || eqb b 45) (λ _. sim-passOk) (λ _. from (sim-pure Free tt))) λ _.
-      sim-bind (sim-execute row passBlanks a) λ _.
-      sim-bind (sim-firstDigit row a) λ d.
-      sim-bind (sim-execute row (moreDigits (d - 48)) a) λ v.
-      sim-integerGiven row (eqb b 45) v a)))
+  loose-gettingInteger = loose-begin s (row-then row (sim-bind sim-getting λ _. given (λ a. sim-takeInteger row a)))
 
   -- a layout call that needs a mood
   loose-inMoodOn : {k : Bool → Step (Unit {0})} → ((r : Bool) → Right (rightsOf s) r → Safe (rightsOf s) (s .lengths) (k r)) → LooseAt false s (inMoodOn row k)

@@ -5,7 +5,7 @@ use native.Mathlib.Omega.{arith}
 use mathlib.Core.Bool.{true}
 use Prim.Native.Nat.{ℕ}
 use Rattle.strings.proofs.Parts.{stops-at}
-use Rattle.strings.proofs.Runs.{good-back}
+use Rattle.lines.proofs.Good.{good-back}
 use Rattle.stores.proofs.Smalls.{here-small}
 use Rattle.rules.specs.declared.Outcome.{Outcome}
 use Rattle.rules.specs.Step.{outcomeGiving}

@@ -1,0 +1,55 @@
+-- The text whole(v, 11) put in its room. Assumes nothing.
+use Prim.Native.Nat.{ℕ, _+_, _≤_, _<_}
+use native.Mathlib.Omega.{arith}
+use mathlib.Core.Path.{_≡_, refl, sym, ap, subst, _∙_}
+use mathlib.Core.List.{List}
+use lib.IntN.{ℤ, pos}
+use lib.ListN.{length, set}
+use lib.Seq.{sets}
+use Rattle.rules.specs.declared.Run.{Run}
+use Rattle.rules.specs.declared.Outcome.{Outcome}
+use Rattle.rules.specs.declared.Ending.{Ending}
+use Rattle.rules.specs.Book.{characterIndex, State, onRun, here, shapeOf}
+use Rattle.rules.specs.Step.{done, ends, outcome, doneBy}
+use Rattle.rules.specs.Steps.{roomFor, execute}
+use Rattle.rules.specs.Ready.{Ready, Valid}
+use Rattle.rules.specs.Whole.{wholeText}
+use Rattle.rules.specs.Calls.{putText}
+use Rattle.laws.specs.Runs.{storedBy}
+use Rattle.laws.proofs.Ways.{outcomeAt, done-of}
+use Rattle.laws.proofs.Numbers.{whole-printable, eleven, text-ends, text-here, text-after, blank-ready}
+
+module _ (row : List ℕ) (v : ℤ) (s : State) (t : List ℕ) (rd : Ready row (roomFor 11) s) where
+  abbrev text : List ℕ
+  text = wholeText v (pos 11)
+
+  as-long : Ready row (roomFor (length text)) s
+  as-long = subst (λ (n : ℕ). Ready row (roomFor n) s) (sym (eleven v)) rd
+
+  some : 0 < length text
+  some = omega (arith, eleven v)
+
+  module _ {x : Ending} {u : State} {t′ : List ℕ} (h : execute row (roomFor 11) s t ≡ ends x u t′) where
+    pub put-halts : putText row text s t ≡ ends x u t′
+    put-halts = text-ends row text s t as-long (whole-printable v (pos 11)) some (ap (λ (n : ℕ). execute row (roomFor n) s t) (eleven v) ∙ h)
+
+  module _ {b : State} {t₁ : List ℕ} (h : execute row (roomFor 11) s t ≡ done tt b t₁) where
+    f : execute row (roomFor (length text)) s t ≡ done tt b t₁
+    f = ap (λ (n : ℕ). execute row (roomFor n) s t) (eleven v) ∙ h
+
+    pub room-valid : Valid b
+    room-valid = done-of row (roomFor 11) t rd h .valid
+
+    stored-as : (x : Run) {y : Run} → y ≡ storedBy 11 x → y ≡ storedBy (length text) x
+    stored-as x e = e ∙ ap (λ (n : ℕ). storedBy n x) (sym (eleven v))
+
+    pub put-here : here b .character ≡ 1 → {y : Run} {t′ : List ℕ} → y ≡ storedBy 11 (b .run) → t′ ≡ sets t₁ (characterIndex (shapeOf b) (here b)) text → {x : Outcome} → x ≡ doneBy y → outcomeAt x b t′ ≡ putText row text s t
+    put-here c hy ht hx = text-here row text s t as-long (whole-printable v (pos 11)) some f c (stored-as (b .run) hy) ht hx
+
+    module _ (c : here b .character ≡ 1 → ⊥) {y : Run} (hy : y ≡ storedBy 1 (b .run)) where
+      pub blank-valid : Valid (onRun b y)
+      blank-valid = blank-ready row text s t as-long (whole-printable v (pos 11)) some f c hy refl .valid
+
+      pub put-after : {t₂ : List ℕ} → t₂ ≡ set t₁ (characterIndex (shapeOf b) (here b)) 32 → {z : Run} {t′ : List ℕ} → z ≡ storedBy 11 y → t′ ≡ sets t₂ (characterIndex (y .file .shape) (y .file .position)) text → {x : Outcome} → x ≡ doneBy z
+          → outcomeAt x b t′ ≡ putText row text s t
+      put-after ht hz ht′ hx = text-after row text s t as-long (whole-printable v (pos 11)) some f c hy ht (stored-as y hz) ht′ hx
