@@ -202,11 +202,12 @@ module _ (row terminators : List ℕ) where
       let q : here s .character + 1 + suc (length cs) ≡ here s .character + suc (suc (length cs)) = omega arith in
       let n : Near (here s) = near-at (rd .valid) in
       let x = run-got c cs rest room (front ++ (b ∷ [])) (passed s) t r (others-before s (suc (length cs)) (rd .valid) (r .valid) (omega arith) w) ps
-          (ap (λ (i : ℕ). drop i t) (index-next (shapeOf s) (here s) (n .character-low)) ∙ rest-is t (characterIndex (shapeOf s) (here s)) e) in
-      (attempt-done _ _ _ s t (one-got s t b rd g (head-is t (characterIndex (shapeOf s) (here s)) e) p) ∙ ap (λ (n : ℕ). getCharacters row terminators n (front ++ (b ∷ [])) (passed s) t) z
-      ∙ x .0 ∙ ap (λ (bs : List ℕ). getCharacters row terminators room bs (onRun s (movedTo (s .run) (place (here s .page) (here s .line) (here s .character + 1 + suc (length cs))))) t) (append-snoc front b (c ∷ cs))
-      ∙ ap (λ (i : ℕ). getCharacters row terminators room (front ++ (b ∷ c ∷ cs)) (onRun s (movedTo (s .run) (place (here s .page) (here s .line) i))) t) q,
-      subst (λ (i : ℕ). Ready row passBlanks (onRun s (movedTo (s .run) (place (here s .page) (here s .line) i)))) q (x .1))
+      (ap (λ (i : ℕ). drop i t) (index-next (shapeOf s) (here s) (n .character-low)) ∙ rest-is t (characterIndex (shapeOf s) (here s)) e) in (
+        attempt-done _ _ _ s t (one-got s t b rd g (head-is t (characterIndex (shapeOf s) (here s)) e) p) ∙ ap (λ (n : ℕ). getCharacters row terminators n (front ++ (b ∷ [])) (passed s) t) z
+            ∙ x .0 ∙ ap (λ (bs : List ℕ). getCharacters row terminators room bs (onRun s (movedTo (s .run) (place (here s .page) (here s .line) (here s .character + 1 + suc (length cs))))) t) (append-snoc front b (c ∷ cs))
+            ∙ ap (λ (i : ℕ). getCharacters row terminators room (front ++ (b ∷ c ∷ cs)) (onRun s (movedTo (s .run) (place (here s .page) (here s .line) i))) t) q,
+        subst (λ (i : ℕ). Ready row passBlanks (onRun s (movedTo (s .run) (place (here s .page) (here s .line) i)))) q (x .1),
+      )
 
 -- what the code may copy at once
 pub record Copied (terminators : List ℕ) (s : State) (t : List ℕ) (n : ℕ) : Type 0 where
@@ -228,12 +229,13 @@ module _ (row terminators : List ℕ) (room i : ℕ) (output : List ℕ) (s : St
       by (b ∷ bs) e p =
           let z : suc (length bs) ≡ n = sym (ap length e) ∙ size in
           let f : drop (characterIndex (shapeOf s) (here s)) t ≡ b ∷ (bs ++ drop n (drop (characterIndex (shapeOf s) (here s)) t))
-              = sym (take-append-drop n (drop (characterIndex (shapeOf s) (here s)) t)) ∙ ap (λ (v : List ℕ). v ++ drop n (drop (characterIndex (shapeOf s) (here s)) t)) e in
+          = sym (take-append-drop n (drop (characterIndex (shapeOf s) (here s)) t)) ∙ ap (λ (v : List ℕ). v ++ drop n (drop (characterIndex (shapeOf s) (here s)) t)) e in
           let w : room - i ≡ suc (length bs + (room - (i + n))) = omega (arith, z) in
           let q : take i output ++ (b ∷ bs) ≡ take (i + n) output′
-              = sym (take-sets output i (b ∷ bs) (omega (arith, z)) ∙ refl) ∙ ap (λ (m : ℕ). take (i + m) (sets output i (b ∷ bs))) z ∙ ap (λ (v : List ℕ). take (i + n) (sets output i v)) (sym e) ∙ ap (take (i + n)) (sym ho) in
+          = sym (take-sets output i (b ∷ bs) (omega (arith, z)) ∙ refl) ∙ ap (λ (m : ℕ). take (i + m) (sets output i (b ∷ bs))) z ∙ ap (λ (v : List ℕ). take (i + n) (sets output i v)) (sym e) ∙ ap (take (i + n)) (sym ho) in
           let x = run-got row terminators b bs _ (room - (i + n)) (take i output) s t rd (subst (λ (m : ℕ). Before s m) (sym z) (r .before)) p f in
-          let v : movedTo (s .run) (onBy (suc (length bs)) (here s)) ≡ y = ap (λ (m : ℕ). movedTo (s .run) (onBy m (here s))) z ∙ sym hy in
-          (ap (λ (m : ℕ). getCharacters row terminators m (take i output) s t) w ∙ x .0 ∙ ap (λ (l : List ℕ). getCharacters row terminators (room - (i + n)) l (onRun s (movedTo (s .run) (onBy (suc (length bs)) (here s)))) t) q
-          ∙ ap (λ (u : Run). getCharacters row terminators (room - (i + n)) (take (i + n) output′) (onRun s u) t) v,
-          subst (λ (u : Run). Ready row passBlanks (onRun s u)) v (x .1))
+          let v : movedTo (s .run) (onBy (suc (length bs)) (here s)) ≡ y = ap (λ (m : ℕ). movedTo (s .run) (onBy m (here s))) z ∙ sym hy in (
+            ap (λ (m : ℕ). getCharacters row terminators m (take i output) s t) w ∙ x .0 ∙ ap (λ (l : List ℕ). getCharacters row terminators (room - (i + n)) l (onRun s (movedTo (s .run) (onBy (suc (length bs)) (here s)))) t) q
+                ∙ ap (λ (u : Run). getCharacters row terminators (room - (i + n)) (take (i + n) output′) (onRun s u) t) v,
+            subst (λ (u : Run). Ready row passBlanks (onRun s u)) v (x .1),
+          )

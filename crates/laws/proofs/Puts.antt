@@ -68,8 +68,9 @@ module _ (row bytes : List ℕ) (i : ℕ) (s : State) (t : List ℕ) (rd : Ready
           let q : putCharacters row (b ∷ bs) s t ≡ done tt (onRun s x) (sets t j (b ∷ bs)) = put-run row b bs s t (any-character b rd) (r .good) p ps (omega (arith, r .room, z)) in
           let w : x ≡ y = ap (λ (k : ℕ). storedBy k (s .run)) z ∙ sym hy in
           let to : done (tt {0}) (onRun s x) (sets t j (b ∷ bs)) ≡ done tt (onRun s y) t′
-              = ap (λ (u : Run). done tt (onRun s u) (sets t j (b ∷ bs))) w ∙ ap (λ (v : List ℕ). done tt (onRun s y) (sets t j v)) (sym e) ∙ ap (λ (v : List ℕ). done tt (onRun s y) v) (sym ht) in
-          let d = run-ready row b bs s t (any-character b rd) (r .good) p ps (omega (arith, r .room, z)) in
-          (ap (λ (v : List ℕ). putCharacters row v s t) (sym (take-append-drop n (drop i bytes)) ∙ ap (λ (v : List ℕ). v ++ drop n (drop i bytes)) e ∙ ap (λ (v : List ℕ). (b ∷ bs) ++ v) (drop-drop n i bytes))
-          ∙ put-append row (b ∷ bs) (drop (i + n) bytes) s t ∙ bind-done _ _ s t (q ∙ to),
-          subst (λ (u : Run). Ready row (putCharacter 0) (onRun s u)) w (any-character 0 d))
+          = ap (λ (u : Run). done tt (onRun s u) (sets t j (b ∷ bs))) w ∙ ap (λ (v : List ℕ). done tt (onRun s y) (sets t j v)) (sym e) ∙ ap (λ (v : List ℕ). done tt (onRun s y) v) (sym ht) in
+          let d = run-ready row b bs s t (any-character b rd) (r .good) p ps (omega (arith, r .room, z)) in (
+            ap (λ (v : List ℕ). putCharacters row v s t) (sym (take-append-drop n (drop i bytes)) ∙ ap (λ (v : List ℕ). v ++ drop n (drop i bytes)) e ∙ ap (λ (v : List ℕ). (b ∷ bs) ++ v) (drop-drop n i bytes))
+                ∙ put-append row (b ∷ bs) (drop (i + n) bytes) s t ∙ bind-done _ _ s t (q ∙ to),
+            subst (λ (u : Run). Ready row (putCharacter 0) (onRun s u)) w (any-character 0 d),
+          )

@@ -142,7 +142,7 @@ run-ready row b (c ∷ cs) s t rd g e (also f fs) k =
     let s₁ : State = onRun s (storedBy 1 (s .run)) in
     let n : Near (here s) = near-at (rd .valid) in
     let x : Ready row (putCharacter b) (onRun s₁ (storedBy (suc (length cs)) (s₁ .run)))
-        = any-character b (run-ready row c cs s₁ (set t (characterIndex (shapeOf s) (here s)) b) (any-character c (one-ready row b s t rd g e)) (good-on s 1 g (omega arith)) f fs (omega arith)) in
+    = any-character b (run-ready row c cs s₁ (set t (characterIndex (shapeOf s) (here s)) b) (any-character c (one-ready row b s t rd g e)) (good-on s 1 g (omega arith)) f fs (omega arith)) in
     subst (λ (r : Run). Ready row (putCharacter b) (onRun s r)) (twice s (length cs) n) x
 
 -- ---- one text after another

@@ -69,8 +69,8 @@ module _ (row bytes : List ℕ) (i : ℕ) (s : State) (t : List ℕ) (rd : Ready
   put-more {n = n} r a b k p z e {y} {t′} {o} hy ht ho =
       let m : 0 < n = some-of n z in
       let x = left-run row bytes i s t rd m
-          (record { there = omega (arith, b, k); good = good-facts false s (r .good (omega (arith, a, k, m))); room = omega (arith, r .line, a, k); plain = p })
-          hy (ht ∙ ap (λ (j : ℕ). sets t j (take n (drop i bytes))) e) in
+      (record { there = omega (arith, b, k); good = good-facts false s (r .good (omega (arith, a, k, m))); room = omega (arith, r .line, a, k); plain = p })
+      hy (ht ∙ ap (λ (j : ℕ). sets t j (take n (drop i bytes))) e) in
       subst (λ (o : Outcome). Put row bytes i s t o n t′ (s .lengths .lines) (s .lengths .pages)) (sym ho)
       (record { same = x .0; ready = λ _. x .1; some = m; within = omega (arith, b, k) })
 
@@ -114,8 +114,8 @@ module _ (row terminators output : List ℕ) (i : ℕ) (s : State) (t : List ℕ
       let m : 0 < n = some-of n z in
       let g = good-facts true s (r .good (omega (arith, a, k, m))) in
       let x = gets.left-run row terminators (length output) i output s t rd m (omega (arith, b, k)) (omega (arith, b, k))
-          (record { before = record { page = g .0; line = omega (arith, r .line, a, k); end = omega (arith, r .end refl, a, k) }; there = omega (arith, r .there, a, k); plain = ap (λ (j : ℕ). every (ordinary terminators) (take n (drop j t))) (sym e) ∙ p })
-          hy (ho ∙ ap (λ (j : ℕ). sets output i (take n (drop j t))) e) in
+      (record { before = record { page = g .0; line = omega (arith, r .line, a, k); end = omega (arith, r .end refl, a, k) }; there = omega (arith, r .there, a, k); plain = ap (λ (j : ℕ). every (ordinary terminators) (take n (drop j t))) (sym e) ∙ p })
+      hy (ho ∙ ap (λ (j : ℕ). sets output i (take n (drop j t))) e) in
       subst (λ (o : Outcome). Got row terminators output i s t o n output′ t (s .lengths .lines) (s .lengths .pages)) (sym hx)
       (record { same = x .0; ready = λ _. x .1; some = λ _. m; within = omega (arith, b, k); untouched = ap (drop (i + n)) ho ∙ past-sets (take n (drop at t)) output i (i + n) (simp length-take (omega arith)) })
 

@@ -39,9 +39,6 @@ module _ (ts : List ℕ) (b : ℕ) where
     pub one-next : i < length ts → eqb (getD ts i 0) b ≡ false → oneOf ts b ≡ oneOf (drop (i + 1) ts) b
     one-next h e = m ∙ next-left i h ∙ ap (λ (x : Bool). x || oneOf (drop (i + 1) ts) b) e
 
-
-
-
 -- ---- a test of every byte, one byte more
 
 every-more : (f : ℕ → Bool) (bs : List ℕ) (b : ℕ) → every f bs ≡ true → f b ≡ true → every f (bs ++ (b ∷ [])) ≡ true

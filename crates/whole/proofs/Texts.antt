@@ -119,8 +119,8 @@ module _ (v w : ℤ) (l : List ℕ) where
       whole-0 h {n} {below} {plus} is-n is-b is-p {l′} k =
           let z : 0 + length (wholeText v w) ≡ length (wholeText v w) = omega arith in
           let t : l′ ≡ wholeText v w ++ drop (length (wholeText v w)) l
-              = k ∙ ap (λ (x : List ℕ). sets l 0 (padded width x)) (ap (λ (m : ℕ). marked plus below m) is-n ∙ ap (λ (b : Bool). marked plus b (natAbs v)) is-b ∙ signed-is plus v ∙ ap (λ (p : Bool). signed p v) is-p)
-              ∙ ap (λ (m : ℕ). sets l 0 (padded m (signed (ltZ (pos 0) w) v))) e ∙ ap (λ (x : List ℕ). sets l 0 x) (sym (whole-padded v w))
-              ∙ sets-eq (wholeText v w) l 0 (omega (arith, e)) ∙ ap (λ (m : ℕ). wholeText v w ++ drop m l) z in
+          = k ∙ ap (λ (x : List ℕ). sets l 0 (padded width x)) (ap (λ (m : ℕ). marked plus below m) is-n ∙ ap (λ (b : Bool). marked plus b (natAbs v)) is-b ∙ signed-is plus v ∙ ap (λ (p : Bool). signed p v) is-p)
+          ∙ ap (λ (m : ℕ). sets l 0 (padded m (signed (ltZ (pos 0) w) v))) e ∙ ap (λ (x : List ℕ). sets l 0 x) (sym (whole-padded v w))
+          ∙ sets-eq (wholeText v w) l 0 (omega (arith, e)) ∙ ap (λ (m : ℕ). wholeText v w ++ drop m l) z in
           ap (λ (m : ℕ). record { number = 0; count = m; buffer = l′ }) e ∙ ap (λ (x : List ℕ). record { number = 0; count = length (wholeText v w); buffer = x }) t
           ∙ rw (low, le-leb (natAbs w) 255 (omega arith), le-ltb (length l) (length (wholeText v w)) (omega (arith, e))) refl

@@ -94,14 +94,7 @@ pub fn fill(output: &mut [u8], from: usize, count: usize, b: u8)
 }
 
 // Some width of characters from an index on: the sign and the digits with blanks on the left, or asterisks.
-pub fn put_padded(
-    output: &mut [u8],
-    at: usize,
-    width: usize,
-    plus: bool,
-    negative: bool,
-    n: u32,
-)
+pub fn put_padded(output: &mut [u8], at: usize, width: usize, plus: bool, negative: bool, n: u32)
     requires { ⌜ at + width < 2 ^ 32 ⌝ }
     ensures { λ _. ⌜ now (output .exit) ≡ sets (now (output .entry)) at (padded width (marked plus negative n)) ⌝ }
 {

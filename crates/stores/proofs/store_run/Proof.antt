@@ -37,8 +37,11 @@ loop-less : tie.Need-loop-less Inv-loop μ-loop
 loop-less c = omega arith
 
 loop-again : tie.Need-loop-again Inv-loop μ-loop
-loop-again c = (run-step (c .before .before .before .args .bytes .now) (c .before .before .before .args .count) (c .before .before .before .args .from) (c .before .before .before .args .at) (c .before .before .loop .i) (c .before .before .loop .text) (omega arith) (omega (arith, c .before .before .before .pre)) ∙ c .before .before .loop .inv .0,
-    omega arith, length-set (c .before .before .loop .text) _ _ ∙ c .before .before .loop .inv .2)
+loop-again c = (
+  run-step (c .before .before .before .args .bytes .now) (c .before .before .before .args .count) (c .before .before .before .args .from) (c .before .before .before .args .at) (c .before .before .loop .i) (c .before .before .loop .text) (omega arith) (omega (arith, c .before .before .before .pre)) ∙ c .before .before .loop .inv .0,
+  omega arith,
+  length-set (c .before .before .loop .text) _ _ ∙ c .before .before .loop .inv .2,
+)
 
 same-length : tie.Need-same-length Inv-loop μ-loop
 same-length c = c .before .loop .inv .2
