@@ -14,6 +14,7 @@ use Rattle.rules.specs.declared.Run.{Run}
 use Rattle.rules.specs.declared.Ending.{Ending}
 use Rattle.rules.specs.declared.Outcome.{Outcome}
 use Rattle.rules.specs.declared.Given.{Given}
+use Rattle.rules.specs.declared.Reply.{Reply}
 use Rattle.rules.specs.declared.Given.the-variants.{Nothing, Character, Integer}
 use Rattle.rules.specs.Book.{choose, State, state, onRun, inMood, rightsOf, rowFits, allFits}
 use Rattle.rules.specs.Step.{Out, done, ends, Step, _>>=_, _>>_, andThen, refuse, pure, refusal, finished, need, size, change, test, branch, halt, again, moodOn, going, outcomeGiving, outcomeWith, outcome, doneBy, refusedBy}
@@ -21,7 +22,7 @@ use Rattle.rules.specs.Steps.{Action}
 use Rattle.rules.specs.Ready.{Ready, Valid}
 use Rattle.rules.specs.Calls.{Value, nothing, aCharacter, anInteger, After, begin, needRow, turnable, putting, getting, leave, after}
 use Rattle.laws.specs.Given.{givenOut}
-use Rattle.laws.proofs.Ways.{bind-done, bind-ends, need-true, need-false, change-then, test-true, test-false, outcomeAt}
+use Rattle.laws.proofs.Ways.{bind-done, bind-ends, need-true, need-false, change-then, test-true, test-false, outcomeAt, with-value}
 use Rattle.laws.proofs.Entry.{call-ready}
 use Rattle.entry.specs.Before.{beforeWork, beforeAsking, mayDo, turnableBy, turnedBy, replyOf, refusedReply, endedReply}
 use Rattle.begins.specs.Begin.{following, preparedBy, inMoodBy, maySetBy, lowestBy}
@@ -189,6 +190,13 @@ module _ {A : Type 0} (row : List ℕ) (s : State) (t : List ℕ) where
   pub not-lowest-is : (h : Bool) (rest : Step A) → h ≡ true → begin (needRow row >> (need 9 (λ _. h) >> rest)) s t ≡ begin (needRow row >> rest) s t
   not-lowest-is h rest e = asked-is (need 9 (λ _. h) >> rest) s t row ∙ ap (λ (x : Out A). choose (eqb (beforeAsking row (length t) s) 0) x (ends (refusal (beforeAsking row (length t) s)) s t)) (need-true 9 (λ _. h) (λ _. rest) s t e) ∙ sym (asked-is rest s t row)
 
+pub lowest-halts : (row : List ℕ) (n : ℕ) (s : State) → going (lowestBy row n s .ending) ≡ false
+lowest-halts row n s = by (beforeAsking row n s) (eqb (beforeAsking row n s) 0) refl
+  where
+    by : (k : ℕ) (b : Bool) → eqb k 0 ≡ b → going (choose b (refusedBy (s .run) 9) (refusedBy (s .run) k) .ending) ≡ false
+    by k true e = refl
+    by k false e = rw e
+
 -- ---- where it leads
 
 module _ {A : Type 0} {x : Out A} (o : Outcome) (s : State) (t : List ℕ) (rest : Step A) (h : Leads x o s t rest) where
@@ -333,3 +341,24 @@ either-second a b e f = rw (e, f)
 
 pub neither : (a b : Bool) → a ≡ false → b ≡ false → (a || b) ≡ false
 neither a b e f = rw (e, f)
+
+-- ---- a call as a whole: how it began, and what its work came to
+
+module _ (buffer : List ℕ) {x : Out Value} (o : Outcome) (t l p : List ℕ) (rest : Step Value) (h : Leads x o (state (o .run) l p) t rest) where
+  pub call-refused : going (o .ending) ≡ false → {reply : Reply} → reply ≡ endedReply o → after reply buffer t l p ≡ leave buffer x
+  call-refused e q = ap (λ (y : Reply). after y buffer t l p) q ∙ reply-ends buffer o t l p (leads-off o (state (o .run) l p) t rest h e)
+
+  -- with work that gives nothing
+  module _ (f : Step (Unit {0})) (is : (u : State) (t : List ℕ) → rest u t ≡ (f >>= λ _. pure nothing) u t) where
+    pub call-worked : going (o .ending) ≡ true → (y : Outcome) (t′ l′ p′ : List ℕ) → outcome y t′ l′ p′ ≡ f (state (o .run) l p) t → {reply : Reply} → reply ≡ endedReply y → after reply buffer t′ l′ p′ ≡ leave buffer x
+    call-worked e y t′ l′ p′ c q = ap (λ (z : Reply). after z buffer t′ l′ p′) q
+        ∙ reply-nothing buffer y t′ l′ p′ (with-value nothing y t′ l′ p′ f (state (o .run) l p) t c ∙ sym (is (state (o .run) l p) t) ∙ sym (leads-on o (state (o .run) l p) t rest h e))
+
+  -- with work that may give a character or an integer
+  pub call-gave : going (o .ending) ≡ true → (y : Run) (g : Given) (t′ l′ p′ : List ℕ) → givenOut y g t′ l′ p′ ≡ rest (state (o .run) l p) t → {reply : Reply} → reply ≡ replyOf y 0 g → after reply buffer t′ l′ p′ ≡ leave buffer x
+  call-gave e y g t′ l′ p′ c q = ap (λ (z : Reply). after z buffer t′ l′ p′) q
+      ∙ reply-given buffer y g t′ l′ p′ (c ∙ sym (leads-on o (state (o .run) l p) t rest h e))
+
+-- the same outcome over an equal start
+pub leads-as : {A : Type 0} {x : Out A} {o o′ : Outcome} (s : State) (t : List ℕ) (rest : Step A) → o ≡ o′ → Leads x o′ s t rest → Leads x o s t rest
+leads-as {x = x} s t rest e h = subst (λ (y : Outcome). Leads x y s t rest) (sym e) h
