@@ -10,13 +10,14 @@ use lib.ListN.{length}
 use lib.IntN.{ℤ}
 use borrow.Author.Tests.{eq-eqb, ne-eqb, eqb-true}
 use Rattle.rules.specs.declared.Position.{Position}
+use Rattle.rules.specs.declared.File.{File}
 use Rattle.rules.specs.declared.Run.{Run}
 use Rattle.rules.specs.declared.Ending.{Ending}
 use Rattle.rules.specs.declared.Outcome.{Outcome}
 use Rattle.rules.specs.declared.Given.{Given}
 use Rattle.rules.specs.declared.Reply.{Reply}
 use Rattle.rules.specs.declared.Given.the-variants.{Nothing, Character, Integer}
-use Rattle.rules.specs.Book.{choose, State, state, onRun, inMood, rightsOf, rowFits, allFits}
+use Rattle.rules.specs.Book.{choose, State, state, onRun, runWith, inMood, rightsOf, rowFits, allFits}
 use Rattle.rules.specs.Step.{Out, done, ends, Step, _>>=_, _>>_, andThen, refuse, pure, refusal, finished, need, size, change, test, branch, halt, again, moodOn, going, outcomeGiving, outcomeWith, outcome, doneBy, refusedBy}
 use Rattle.rules.specs.Steps.{Action}
 use Rattle.rules.specs.Ready.{Ready, Valid}
@@ -362,3 +363,22 @@ module _ (buffer : List ℕ) {x : Out Value} (o : Outcome) (t l p : List ℕ) (r
 -- the same outcome over an equal start
 pub leads-as : {A : Type 0} {x : Out A} {o o′ : Outcome} (s : State) (t : List ℕ) (rest : Step A) → o ≡ o′ → Leads x o′ s t rest → Leads x o s t rest
 leads-as {x = x} s t rest e h = subst (λ (y : Outcome). Leads x y s t rest) (sym e) h
+
+-- ---- a get or a put, from the record and the book as they are given
+
+abbrev pub startOf : File → Position → List ℕ → List ℕ → State
+startOf file end l p = state (runWith file end 0 0) l p
+
+module _ (row : List ℕ) (file : File) (end : Position) (t l p : List ℕ) (reading : Bool) {r : Run} (er : r ≡ runWith file end 0 0) {o : Outcome} (h : o ≡ preparedBy row reading (length t) (state r l p)) where
+  pub begun : o ≡ preparedBy row reading (length t) (startOf file end l p)
+  begun = h ∙ ap (λ (x : Run). preparedBy row reading (length t) (state x l p)) er
+
+  module _ (e : going (o .ending) ≡ true) where
+    pub begun-ready : (action : Action) → Ready row action (state (o .run) l p)
+    begun-ready action = prepared-ready row (length t) (startOf file end l p) refl refl reading begun e action
+
+    pub begun-row : T (rowFits row)
+    begun-row = prepared-row row (length t) (startOf file end l p) refl refl reading begun e
+
+    pub begun-events : o .run .events ≤ 2 ^ 40
+    begun-events = prepared-events row (length t) (startOf file end l p) refl refl reading begun e

@@ -5,40 +5,28 @@ use mathlib.Core.Bool.{Bool, true, false, not}
 use mathlib.Core.List.{List, [], _∷_}
 use lib.IntN.{ℤ, pos}
 use lib.ListN.{length}
-use lib.Dec.{T}
 use Rattle.rules.specs.declared.Position.{Position}
 use Rattle.rules.specs.declared.File.{File}
 use Rattle.rules.specs.declared.Run.{Run}
 use Rattle.rules.specs.declared.Outcome.{Outcome}
 use Rattle.rules.specs.declared.Reply.{Reply}
-use Rattle.rules.specs.Book.{State, state, runWith, rowFits}
+use Rattle.rules.specs.Book.{State, state, runWith}
 use Rattle.rules.specs.Step.{Out, done, ends, Step, _>>=_, _>>_, pure, need, going, outcome, outcomeGiving}
-use Rattle.rules.specs.Steps.{Action, putCharacter, execute}
-use Rattle.rules.specs.Ready.{Ready}
+use Rattle.rules.specs.Steps.{putCharacter, execute}
 use Rattle.rules.specs.Whole.{wholeText, lowest}
 use Rattle.rules.specs.Calls.{Value, nothing, begin, needRow, putting, putCharacters, puttingString, putText, puttingInteger, leave, after, book, call, work, askingWork, bufferOf, asking, putsCharacter, putsString, putsInteger}
 use Rattle.laws.proofs.Ways.{with-value}
 use Rattle.entry.specs.Before.{endedReply}
 use Rattle.begins.specs.Begin.{preparedBy, lowestBy}
-use Rattle.begins.proofs.Begins.{Leads, leads-as, put-leads, lowest-leads, lowest-halts, not-lowest-is, prepared-ready, prepared-row, call-refused, call-worked}
+use Rattle.begins.proofs.Begins.{Leads, leads-as, put-leads, lowest-leads, lowest-halts, not-lowest-is, startOf, begun, call-refused, call-worked}
 
 module _ (row : List ℕ) (file : File) (end : Position) (t l p : List ℕ) where
-  -- the book at the start
   abbrev start : State
-  start = state (runWith file end 0 0) l p
+  start = startOf file end l p
 
   module _ {r : Run} (er : r ≡ runWith file end 0 0) {o : Outcome} (h : o ≡ preparedBy row false (length t) (state r l p)) where
-    from-start : o ≡ preparedBy row false (length t) start
-    from-start = h ∙ ap (λ (x : Run). preparedBy row false (length t) (state x l p)) er
-
     put-from : (rest : Step Value) → Leads (begin (needRow row >> (putting >> rest)) start t) o (state (o .run) l p) t rest
-    put-from rest = leads-as start t rest from-start (put-leads row start t rest)
-
-    pub put-ready : going (o .ending) ≡ true → (action : Action) → Ready row action (state (o .run) l p)
-    put-ready e action = prepared-ready row (length t) start refl refl false from-start e action
-
-    pub put-row : going (o .ending) ≡ true → T (rowFits row)
-    put-row e = prepared-row row (length t) start refl refl false from-start e
+    put-from rest = leads-as start t rest (begun row file end t l p false er h) (put-leads row start t rest)
 
     module _ (bs : List ℕ) where
       pub string-refused : going (o .ending) ≡ false → {reply : Reply} → reply ≡ endedReply o → after reply [] t l p ≡ call (asking (putsString bs) row) file (book t l p end)
