@@ -382,3 +382,12 @@ module _ (row : List ℕ) (file : File) (end : Position) (t l p : List ℕ) (rea
 
     pub begun-events : o .run .events ≤ 2 ^ 40
     begun-events = prepared-events row (length t) (startOf file end l p) refl refl reading begun e
+
+-- ---- a call that lends no answers
+
+module _ {A : Type 0} (rest : Step A) {s : State} (t : List ℕ) {k : ℕ} (h : k ≡ beforeWork (length t) s) where
+  pub checked-no : (k ≡ 0 → ⊥) → begin rest s t ≡ ends (refusal k) s t
+  checked-no z = begin-is rest s t ∙ ap (λ (j : ℕ). choose (eqb j 0) (rest s t) (ends (refusal j) s t)) (sym h) ∙ ap (λ (b : Bool). choose b (rest s t) (ends (refusal k) s t)) (ne-eqb k 0 z)
+
+  pub checked-on : k ≡ 0 → begin rest s t ≡ rest s t
+  checked-on z = begin-is rest s t ∙ ap (λ (j : ℕ). choose (eqb j 0) (rest s t) (ends (refusal j) s t)) (sym h ∙ z)

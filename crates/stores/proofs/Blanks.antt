@@ -12,11 +12,6 @@ use Rattle.rules.specs.declared.Shape.{Shape}
 use Rattle.rules.specs.Book.{choose, place, before, Lengths, lineLength, characterIndex}
 use Rattle.rules.specs.Step.{endAfter, blanks, blankLine, blankLines}
 
-pub blanks-step : (n i : ℕ) (t : List ℕ) → 0 < n → blanks (n - 1) (i + 1) (set t i 32) ≡ blanks n i t
-unfolding blanks
-blanks-step zero i t h = absurd (omega arith)
-blanks-step (suc n) i t h = rw (sub-one, add-one)
-
 pub lines-step : (h : Shape) (f : Lengths) (n p l : ℕ) (t : List ℕ) → 0 < n → blankLines h f (n - 1) p (l + 1) (blankLine h f (place p l 1) t) ≡ blankLines h f n p l t
 unfolding blankLines
 lines-step h f zero p l t k = absurd (omega arith)

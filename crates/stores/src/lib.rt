@@ -5,7 +5,7 @@ use rules::Run;
 use rules::Shape;
 ghost use mathlib.Core.Path.{_≡_};
 ghost use Prim.Native.Nat.{_+_, _-_, _≤_, _<_, _^_};
-ghost use lib.ListN.{length, set, take, drop};
+ghost use lib.ListN.{length, set, take, drop, replicate};
 ghost use lib.Seq.{sets};
 ghost use Rattle.rules.specs.Book.{place, lengths, characterIndex, state};
 ghost use Rattle.rules.specs.Step.{Out, done, endAfter, blanks, blankLine, blankLines, endLine, endPage};
@@ -21,18 +21,26 @@ pub fn store_byte(bytes: &mut [u8], i: usize, b: u8)
     }
 }
 
+// Some bytes that are all the same, from an index on, as far as the slice goes.
+pub fn fill(bytes: &mut [u8], from: usize, count: usize, b: u8)
+    requires { ⌜ from + count < 2 ^ 33 ⌝ }
+    ensures { λ _. ⌜ now (bytes .exit) ≡ sets (now (bytes .entry)) from (replicate count b) ⌝ }
+{
+    let mut i = from;
+    let mut left = count;
+    while 0 < left {
+        store_byte(bytes, i, b);
+        i += 1;
+        left -= 1;
+    }
+}
+
 // Writes some blanks from an index on, as far as the text goes.
 pub fn blank(text: &mut [u8], from: usize, count: usize)
     requires { ⌜ (from < 2 ^ 32) × (count < 2 ^ 32) ⌝ }
     ensures { λ _. ⌜ now (text .exit) ≡ blanks count from (now (text .entry)) ⌝ }
 {
-    let mut i = from;
-    let mut left = count;
-    while 0 < left {
-        store_byte(text, i, 32);
-        i += 1;
-        left -= 1;
-    }
+    fill(text, from, count, 32);
 }
 
 // Stores a length, if its place is there.

@@ -79,20 +79,6 @@ pub fn put_sign(output: &mut [u8], end: usize, plus: bool, negative: bool) -> us
     end
 }
 
-// Some characters that are all the same, from an index on.
-pub fn fill(output: &mut [u8], from: usize, count: usize, b: u8)
-    requires { ⌜ from + count < 2 ^ 32 ⌝ }
-    ensures { λ _. ⌜ now (output .exit) ≡ sets (now (output .entry)) from (replicate count b) ⌝ }
-{
-    let mut i = from;
-    let mut left = count;
-    while 0 < left {
-        stores::store_byte(output, i, b);
-        i += 1;
-        left -= 1;
-    }
-}
-
 // Some width of characters from an index on: the sign and the digits with blanks on the left, or asterisks.
 pub fn put_padded(output: &mut [u8], at: usize, width: usize, plus: bool, negative: bool, n: u32)
     requires { ⌜ at + width < 2 ^ 32 ⌝ }
@@ -100,12 +86,12 @@ pub fn put_padded(output: &mut [u8], at: usize, width: usize, plus: bool, negati
 {
     let size = sign_count(plus, negative) + digit_count(n);
     if width < size {
-        fill(output, at, width, 42);
+        stores::fill(output, at, width, 42);
         return;
     }
     let first = put_digits(output, at + width, n);
     let start = put_sign(output, first, plus, negative);
-    fill(output, at, start - at, 32);
+    stores::fill(output, at, start - at, 32);
 }
 
 // The text whole(v, 11) from an index on.
