@@ -5,3 +5,4 @@ pub mod Bodies
 pub mod Calls
 pub mod Demand3
 pub mod Kept
+pub mod Guards
