@@ -95,11 +95,26 @@ pub fn least(a: usize, b: usize) -> usize
     if a <= b { a } else { b }
 }
 
+// 1 for two bytes that are the same.
+pub fn one_if_same(a: u8, b: u8) -> usize
+    ensures { λ r. ⌜ r ≤ 1 ⌝ }
+{
+    if a == b { 1 } else { 0 }
+}
+
 // 1 for a blank.
 pub fn one_if_blank(b: u8) -> usize
     ensures { λ r. ⌜ r ≤ 1 ⌝ }
 {
-    if b == 32 { 1 } else { 0 }
+    one_if_same(b, 32)
+}
+
+// Whether three numbers are each at most 1.
+pub fn at_most_one(a: usize, b: usize, c: usize) -> bool {
+    if 1 < a {
+        return false;
+    }
+    if 1 < b { false } else { c <= 1 }
 }
 
 // How many words a line has: they are separated by one blank.
