@@ -58,7 +58,7 @@ pub struct File {
 }
 
 /// "The caller lends the characters, a line length for each line and a page length for each
-/// page." The logical end stands beside them (open point 3).
+/// page." The logical end stands beside them (decision 3).
 pub struct Book<'b> {
     pub text: &'b mut [u8],
     pub line_lengths: &'b mut [u8],
@@ -136,7 +136,7 @@ pub fn sizes_are_good(shape: Shape, book: &Book) -> bool {
 }
 
 /// "A line length for each line (0 to C), and a page length for each page (0 to L lines)."
-/// Every lent length counts, also of lines that are not in their page (open point 31).
+/// Every lent length counts, also of lines that are not in their page (decision 31).
 pub fn lengths_are_good(shape: Shape, book: &Book) -> bool {
     let lines_fit = book
         .line_lengths
@@ -163,7 +163,7 @@ pub fn moods_are_good(file: &File) -> bool {
 }
 
 /// What establish asks of refusal 3: the shape, the lent sizes and "no right to get or put"
-/// (open point 7). "Establish and open do not look at what they set."
+/// (decision 7). "Establish and open do not look at what they set."
 pub fn establish_fits(file: &File, book: &Book) -> bool {
     shape_is_good(file.shape) && sizes_are_good(file.shape, book) && some_right(file)
 }

@@ -55,7 +55,7 @@ fn answer_is_good(word: u32) -> bool {
     }
 }
 
-/// Refusal 2, over the whole row (open point 31): "row over 64 words" or a bad word in it.
+/// Refusal 2, over the whole row (decision 31): "row over 64 words" or a bad word in it.
 fn test_row(row: &[u32]) -> Result<(), Refusal> {
     if row.len() > 64 || !row.iter().all(|&word| answer_is_good(word)) {
         return Err(Refusal::BadRow);
@@ -235,7 +235,7 @@ pub fn get_character(file: &mut File, book: &mut Book, row: &[u32]) -> CallResul
 }
 
 /// Get a string. "A refused get gives stop 0; what a string delivered stays", and so does its
-/// count (open point 27).
+/// count (decision 27).
 pub fn get_string(
     file: &mut File,
     book: &mut Book,
@@ -337,7 +337,7 @@ pub fn view(file: &File, book: &Book, page: u32, line: u32, marker: &[u8]) -> Ca
     }
 }
 
-/// The tests of whole in their order: 9, 6, 12 (open point 19); then its text.
+/// The tests of whole in their order: 9, 6, 12 (decision 19); then its text.
 fn tested_whole(value: i32, width: i32, room: usize) -> Result<Vec<u8>, Refusal> {
     test_value(value)?;
     if !(-255..=255).contains(&width) {

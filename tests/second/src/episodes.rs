@@ -1,4 +1,4 @@
-//! Random episodes as scripts of replay.md: a scene that sets everything, then calls with their
+//! Random episodes as scripts of the format that README gives: a scene that sets everything, then calls with their
 //! rows, changes of the scene, bad lines and dumps.
 
 use crate::book::{record_and_book_fit, Book, File, Position, Rights};
@@ -10,7 +10,7 @@ use crate::scenes::{hints_of, random_call, random_row, random_scene, random_targ
 /// A script, line by line, without the line feeds.
 pub type Script = Vec<Vec<u8>>;
 
-/// Lines that replay.md calls bad, and some that do nothing, with bars between them.
+/// Lines that the script format calls bad, and some that do nothing, with bars between them.
 const ODD_LINES: &str = "\
     newline | newline|newlines|Newline|newline\r|new line|putc|putc 6|putc 6g|putc 616|\
     putc -|putc 61 61|puts|puts 6|puts 61 61|puts --|puts -61|puts 6 1|puts  61|puti|\

@@ -1,4 +1,4 @@
-//! The script player of replay.md: reads a script, makes each call, writes one line for each.
+//! The script player, of the format that README gives: reads a script, makes each call, writes one line for each.
 
 use crate::book::{Book, File, Position, Rights, Shape};
 use crate::calls;

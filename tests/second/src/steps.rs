@@ -162,7 +162,7 @@ fn do_answer(work: &mut Work, answer: Answer) -> Result<(), Refusal> {
 }
 
 /// Signals an event. "After an answer the call's mood is set again"; a set made with no mood
-/// has none to set again (open point 12).
+/// has none to set again (decision 12).
 fn signal(work: &mut Work, mood: Option<Mood>) -> Result<Reply, Refusal> {
     let answer = take_answer(work);
     if answer.kind == 0 {
@@ -188,7 +188,7 @@ fn good_file(work: &mut Work, mood: Mood) -> Result<bool, Refusal> {
 }
 
 /// "Good page: good file, then signal page end while l exceeds the page length. Default:
-/// newpage." Good file is tested again after every step (open point 22).
+/// newpage." Good file is tested again after every step (decision 22).
 fn good_page(work: &mut Work, mood: Mood) -> Result<bool, Refusal> {
     loop {
         if !good_file(work, mood)? {
@@ -228,7 +228,7 @@ fn or_refusal_7(good: bool) -> Result<(), Refusal> {
     }
 }
 
-/// Stores blanks from a place to the end of its line, to the line's own length (open point 24).
+/// Stores blanks from a place to the end of its line, to the line's own length (decision 24).
 fn blank_line_from(work: &mut Work, start: Position) {
     let last = line_length(work.file.shape, work.book, start.page, start.line);
     for character in start.character..=last {
@@ -290,7 +290,7 @@ fn blank_page_from_end(work: &mut Work) {
 }
 
 /// "With compress the line is cut at c-1 and the page after it (before it, if c = 1; nothing
-/// is cut if the page was full)." Full: the end's line exceeds the page length (open point 23).
+/// is cut if the page was full)." Full: the end's line exceeds the page length (decision 23).
 fn cut_page_at_end(work: &mut Work) {
     let end = work.book.logical_end;
     if end.line > page_length(work.file.shape, work.book, end.page) {
