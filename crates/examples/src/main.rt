@@ -2,6 +2,15 @@
 use libc::STDOUT_FILENO;
 use scenes::Played;
 use scenes::Scene;
+ghost use Prim.Native.Nat.{_≤_, _<_};
+
+// Past a line that ends at `to`: further on in any case.
+fn step_past(from: usize, to: usize, size: usize) -> usize
+    requires { ⌜ (from < size) × (from ≤ to) ⌝ }
+    ensures { λ r. ⌜ from < r ⌝ }
+{
+    if to < size { to + 1 } else { size }
+}
 
 // The memory that a script lends, played line by line: what the last line did. The script's lines end with a line feed.
 fn play_script(
@@ -31,7 +40,7 @@ fn play_script(
             row,
             out,
         );
-        from = to + 1;
+        from = step_past(from, to, lines_of.len());
     }
     last
 }
