@@ -6,10 +6,11 @@ use native.Mathlib.Nat.{mul-le-mul}
 use mathlib.Core.Path.{_≡_, refl, sym, ap, subst, _∙_}
 use mathlib.Core.Bool.{Bool, true, false, not, _&&_, _||_}
 use mathlib.Core.List.{List, [], _∷_, _++_}
-use lib.Dec.{T, leb, eqb}
+use lib.Dec.{T, leb, ltb, eqb}
 use lib.ListN.{length, getD, take, drop, drop-of-length-le}
 use lib.Seq.{take-suc, take-all, drop-cons}
 use borrow.Author.Tests.{le-leb, lt-leb, leb-true, leb-false, eq-eqb, ne-eqb}
+use Rattle.places.proofs.Bytes.{greater-up-to}
 use Rattle.rules.specs.declared.Position.{Position}
 use Rattle.rules.specs.declared.Shape.{Shape}
 use Rattle.rules.specs.declared.Rights.{Rights}
@@ -52,32 +53,16 @@ all-more most (y ∷ ys) x = ap (λ (b : Bool). leb y most && b) (all-more most 
     joined false q r = refl
 
 module _ (most : ℕ) (xs : List ℕ) where
-  pub all-none : eqb 0 0 ≡ allUpTo most (take 0 xs)
+  pub all-none : leb 0 most ≡ allUpTo most (take 0 xs)
   unfolding allUpTo
-  all-none = refl
+  all-none = le-leb 0 most (omega arith)
 
-  pub all-next : (above i : ℕ) → most ≤ 255 → i < length xs → getD xs i 0 ≤ 255 → eqb above 0 ≡ allUpTo most (take i xs)
-      → eqb (above + (getD xs i 0 + (255 - most)) / 2 ^ 8) 0 ≡ allUpTo most (take (i + 1) xs)
-  all-next above i m h k e = by (leb (getD xs i 0) most) refl ∙ sym (ap (λ (n : ℕ). allUpTo most (take n xs)) (add-one i) ∙ ap (allUpTo most) (take-suc xs i 0 h) ∙ all-more most (take i xs) (getD xs i 0))
-    where
-      by : (b : Bool) → leb (getD xs i 0) most ≡ b → eqb (above + (getD xs i 0 + (255 - most)) / 2 ^ 8) 0 ≡ (allUpTo most (take i xs) && leb (getD xs i 0) most)
-      by true q =
-          let z : above + (getD xs i 0 + (255 - most)) / 2 ^ 8 ≡ above = omega (arith, leb-true (getD xs i 0) most q, m) in
-          ap (λ (n : ℕ). eqb n 0) z ∙ e ∙ kept (allUpTo most (take i xs)) ∙ sym (ap (λ (p : Bool). allUpTo most (take i xs) && p) q)
-        where
-          kept : (p : Bool) → p ≡ (p && true)
-          kept true = refl
-          kept false = refl
-      by false q =
-          let z : ¬ (above + (getD xs i 0 + (255 - most)) / 2 ^ 8 ≡ 0) = omega (arith, leb-false (getD xs i 0) most q, m, k) in
-          ne-eqb _ _ z ∙ none (allUpTo most (take i xs)) ∙ sym (ap (λ (p : Bool). allUpTo most (take i xs) && p) q)
-        where
-          none : (p : Bool) → false ≡ (p && false)
-          none true = refl
-          none false = refl
+  pub all-next : (top i : ℕ) {next : ℕ} → i < length xs → next ≡ choose (ltb top (getD xs i 0)) (getD xs i 0) top → leb top most ≡ allUpTo most (take i xs) → leb next most ≡ allUpTo most (take (i + 1) xs)
+  all-next top i h n e = ap (λ (t : ℕ). leb t most) n ∙ greater-up-to top (getD xs i 0) most ∙ ap (λ (p : Bool). p && leb (getD xs i 0) most) e
+      ∙ sym (ap (λ (k : ℕ). allUpTo most (take k xs)) (add-one i) ∙ ap (allUpTo most) (take-suc xs i 0 h) ∙ all-more most (take i xs) (getD xs i 0))
 
-  pub all-last : (above i : ℕ) → length xs ≤ i → eqb above 0 ≡ allUpTo most (take i xs) → eqb above 0 ≡ allUpTo most xs
-  all-last above i h e = e ∙ ap (allUpTo most) (take-all i xs h)
+  pub all-last : (top i : ℕ) → length xs ≤ i → leb top most ≡ allUpTo most (take i xs) → leb top most ≡ allUpTo most xs
+  all-last top i h e = e ∙ ap (allUpTo most) (take-all i xs h)
 
 -- ---- the last test of a shape
 
@@ -168,13 +153,15 @@ shape-legal n s e = legal-facts (shapeOf s) (shape-facts n s (subst T (sym e) tt
 pub shape-sizes : (n : ℕ) (s : State) → shapeFits n s ≡ true → Sizes (shapeOf s) (s .lengths) n
 shape-sizes n s e = sizes-facts (shapeOf s) (s .lengths) n (shape-facts n s (subst T (sym e) tt) .1)
 
-pub book-shape : (n : ℕ) (s : State) → bookFits n s ≡ true → shapeFits n s ≡ true
-unfolding bookFits
-book-shape n s e = first (shapeFits n s) (lengthsFit (shapeOf s) (s .lengths)) (inBounds (shapeOf s) (s .lengths) (endOf s)) e
-  where
-    first : (a b c : Bool) → (a && b && c) ≡ true → a ≡ true
-    first true b c h = refl
-    first false b c h = h
+-- every length, of lines and of pages
+module _ (h : Shape) (f : Lengths) where
+  pub lengths-lines-bad : allUpTo (h .characters) (f .lines) ≡ false → false ≡ lengthsFit h f
+  unfolding lengthsFit
+  lengths-lines-bad e = rw e
+
+  pub lengths-pages : allUpTo (h .characters) (f .lines) ≡ true → allUpTo (h .lines) (f .pages) ≡ lengthsFit h f
+  unfolding lengthsFit
+  lengths-pages e = rw e
 
 -- ---- the tests of a book
 
@@ -184,18 +171,13 @@ module _ (n : ℕ) (s : State) where
   book-shape-bad e = rw e
 
   module _ (e : shapeFits n s ≡ true) where
-    pub book-lines-bad : allUpTo (shapeOf s .characters) (s .lengths .lines) ≡ false → false ≡ bookFits n s
-    unfolding bookFits lengthsFit
-    book-lines-bad f = rw (e, f)
+    pub book-lengths-bad : lengthsFit (shapeOf s) (s .lengths) ≡ false → false ≡ bookFits n s
+    unfolding bookFits
+    book-lengths-bad f = rw (e, f)
 
-    module _ (f : allUpTo (shapeOf s .characters) (s .lengths .lines) ≡ true) where
-      pub book-pages-bad : allUpTo (shapeOf s .lines) (s .lengths .pages) ≡ false → false ≡ bookFits n s
-      unfolding bookFits lengthsFit
-      book-pages-bad g = rw (e, f, g)
-
-      pub book-end : allUpTo (shapeOf s .lines) (s .lengths .pages) ≡ true → inBounds (shapeOf s) (s .lengths) (endOf s) ≡ bookFits n s
-      unfolding bookFits lengthsFit
-      book-end g = rw (e, f, g)
+    pub book-end : lengthsFit (shapeOf s) (s .lengths) ≡ true → inBounds (shapeOf s) (s .lengths) (endOf s) ≡ bookFits n s
+    unfolding bookFits
+    book-end f = rw (e, f)
 
   pub all-book-bad : bookFits n s ≡ false → false ≡ allFits n s
   unfolding allFits

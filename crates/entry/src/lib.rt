@@ -9,10 +9,9 @@ use rules::Rights;
 use rules::Run;
 use rules::Shape;
 ghost use mathlib.Core.Path.{_≡_};
-ghost use Prim.Native.Nat.{_≤_};
 ghost use lib.Dec.{T};
 ghost use lib.ListN.{length};
-ghost use Rattle.rules.specs.Book.{state, runWith, legal, allUpTo, someRight, moodsFit, shapeFits, bookFits, allFits, wordFits, rowFits};
+ghost use Rattle.rules.specs.Book.{state, lengths, runWith, legal, allUpTo, lengthsFit, someRight, moodsFit, shapeFits, bookFits, allFits, wordFits, rowFits};
 ghost use Rattle.entry.specs.Before.{sizesAre, beforeWork, beforeAsking, mayDo, turnableBy, turnedBy, replyOf, refusedReply, endedReply};
 
 // The running call that a call begins with.
@@ -71,19 +70,17 @@ pub fn sizes_fit(shape: Shape, text: usize, lines: usize, pages: usize) -> bool
     pages == shape.pages
 }
 
-// Whether every lent length is at most a limit: one pass, without a branch for an element. A length above the limit adds 1.
+// Whether every lent length is at most a limit: one pass for the greatest, without a branch for an element.
 pub fn all_up_to(most: usize, lengths: &[u8]) -> bool
-    requires { ⌜ (most ≤ 255) × (length (now lengths) ≤ 1024) ⌝ }
     ensures { λ r. ⌜ r ≡ allUpTo most (now (lengths .entry)) ⌝ }
 {
-    let rest = (255 - most) as u16;
-    let mut above: u16 = 0;
+    let mut top: u8 = 0;
     let mut i = 0;
     while i < lengths.len() {
-        above = above + ((lengths[i] as u16 + rest) >> 8);
+        top = places::greater(top, lengths[i]);
         i += 1;
     }
-    above == 0
+    places::wide(top) <= most
 }
 
 // "At least one of get and put is needed."
@@ -121,6 +118,16 @@ pub fn shape_fits(run: Run, text: &[u8], lines: &[u8], pages: &[u8]) -> bool
     has_right(rights)
 }
 
+// Whether every lent length is at most what the shape allows.
+pub fn lengths_fit(shape: Shape, lines: &[u8], pages: &[u8]) -> bool
+    ensures { λ r. ⌜ r ≡ lengthsFit shape (lengths (now (lines .entry)) (now (pages .entry))) ⌝ }
+{
+    if !all_up_to(shape.characters, lines) {
+        return false;
+    }
+    all_up_to(shape.lines, pages)
+}
+
 // What open looks at.
 pub fn book_fits(run: Run, text: &[u8], lines: &[u8], pages: &[u8]) -> bool
     ensures { λ r. ⌜ r ≡ bookFits (length (now (text .entry))) (state run (now (lines .entry)) (now (pages .entry))) ⌝ }
@@ -130,16 +137,13 @@ pub fn book_fits(run: Run, text: &[u8], lines: &[u8], pages: &[u8]) -> bool
     if !shape_fits(run, text, lines, pages) {
         return false;
     }
-    if !all_up_to(shape.characters, lines) {
-        return false;
-    }
-    if !all_up_to(shape.lines, pages) {
+    if !lengths_fit(shape, lines, pages) {
         return false;
     }
     places::in_bounds(shape, lines, pages, end)
 }
 
-// What every other call looks at.
+// What every other call looks at: what open does, and the record. It calls no `book_fits`, so that all of it is one function.
 pub fn all_fits(run: Run, text: &[u8], lines: &[u8], pages: &[u8]) -> bool
     ensures { λ r. ⌜ r ≡ allFits (length (now (text .entry))) (state run (now (lines .entry)) (now (pages .entry))) ⌝ }
 {
@@ -147,7 +151,13 @@ pub fn all_fits(run: Run, text: &[u8], lines: &[u8], pages: &[u8]) -> bool
     let shape = file.shape;
     let position = file.position;
     let end = run.end;
-    if !book_fits(run, text, lines, pages) {
+    if !shape_fits(run, text, lines, pages) {
+        return false;
+    }
+    if !lengths_fit(shape, lines, pages) {
+        return false;
+    }
+    if !places::in_bounds(shape, lines, pages, end) {
         return false;
     }
     if !places::in_bounds(shape, lines, pages, position) {

@@ -1,7 +1,7 @@
-// The examples E1 to E11 of document 01, run over the core: for each the line that its last call writes, beside what document 01 says.
+// The examples E1 to E11 of document 01, run over the core: for each what document 01 says,
+// and beside it the line that its last call writes.
 use libc::STDOUT_FILENO;
 use scenes::Played;
-use scenes::Scene;
 ghost use Prim.Native.Nat.{_≤_, _<_};
 
 // Past a line that ends at `to`: further on in any case.
@@ -12,10 +12,18 @@ fn step_past(from: usize, to: usize, size: usize) -> usize
     if to < size { to + 1 } else { size }
 }
 
-// The memory that a script lends, played line by line: what the last line did. The script's lines end with a line feed.
-fn play_script(
-    first: Scene,
-    lines_of: &[u8],
+// Whether a line says what document 01 says; any other is a line of a script.
+fn is_said(line: &[u8]) -> bool {
+    if line.len() == 0 {
+        return false;
+    }
+    line[0] == b'E'
+}
+
+// A line of the table: what is said of an example comes after the line that the example before it wrote; any other line is played.
+fn play_entry(
+    last: Played,
+    line: &[u8],
     bytes: &mut [u8],
     output: &mut [u8],
     text: &mut [u8],
@@ -24,14 +32,33 @@ fn play_script(
     row: &mut [u32],
     out: &mut [u8],
 ) -> Played {
-    let mut last = scenes::bad_line(first);
+    let scene = last.scene;
+    if is_said(line) {
+        console::write_out(out, last.count);
+        io::write_all(STDOUT_FILENO, line);
+        return scenes::bad_line(scene);
+    }
+    script::play_line(scene, line, bytes, output, text, lines, pages, row, out)
+}
+
+// The table, line by line: what the last line did. Each line ends with a line feed.
+fn play_table(
+    table: &[u8],
+    bytes: &mut [u8],
+    output: &mut [u8],
+    text: &mut [u8],
+    lines: &mut [u8],
+    pages: &mut [u8],
+    row: &mut [u32],
+    out: &mut [u8],
+) -> Played {
+    let mut last = scenes::bad_line(scenes::first_scene());
     let mut from = 0;
-    while from < lines_of.len() {
-        let to = bytes::scan::find(lines_of, from, lines_of.len(), 10);
-        let scene = last.scene;
-        last = script::play_line(
-            scene,
-            &lines_of[from..to],
+    while from < table.len() {
+        let to = bytes::scan::find(table, from, table.len(), 10);
+        last = play_entry(
+            last,
+            &table[from..to],
             bytes,
             output,
             text,
@@ -40,305 +67,9 @@ fn play_script(
             row,
             out,
         );
-        from = step_past(from, to, lines_of.len());
+        from = step_past(from, to, table.len());
     }
     last
-}
-
-// One example: its name, the line of its last call, and what document 01 says.
-fn example(
-    scene: Scene,
-    name: &[u8],
-    lines_of: &[u8],
-    says: &[u8],
-    bytes: &mut [u8],
-    output: &mut [u8],
-    text: &mut [u8],
-    lines: &mut [u8],
-    pages: &mut [u8],
-    row: &mut [u32],
-    out: &mut [u8],
-) -> Scene {
-    let last = play_script(scene, lines_of, bytes, output, text, lines, pages, row, out);
-    io::write_all(STDOUT_FILENO, name);
-    io::write_all(STDOUT_FILENO, b": document 01: ");
-    io::write_all(STDOUT_FILENO, says);
-    io::write_all(STDOUT_FILENO, b": ");
-    console::write_out(out, last.count);
-    last.scene
-}
-
-// Examples in turn.
-fn first_examples(
-    scene: Scene,
-    bytes: &mut [u8],
-    output: &mut [u8],
-    text: &mut [u8],
-    lines: &mut [u8],
-    pages: &mut [u8],
-    row: &mut [u32],
-    out: &mut [u8],
-) -> Scene {
-    let s1 = example(
-        scene,
-        b"E1",
-        b"establish\nputs 6162636465666768696a\n",
-        b"line 1 \"abcdefgh\", position and end (1,2,3), one event",
-        bytes,
-        output,
-        text,
-        lines,
-        pages,
-        row,
-        out,
-    );
-    let s2 = example(
-        s1,
-        b"E2",
-        b"reset\ngets 20 -\n",
-        b"\"abcdefgh\", stop 2, (1,1,9)",
-        bytes,
-        output,
-        text,
-        lines,
-        pages,
-        row,
-        out,
-    );
-    let s3 = example(
-        s2,
-        b"E3",
-        b"gets 20 -\n",
-        b"empty, stop 2",
-        bytes,
-        output,
-        text,
-        lines,
-        pages,
-        row,
-        out,
-    );
-    let s4 = example(
-        s3,
-        b"E4",
-        b"reset\ngets 20 -\nrow 20000000\ngets 20 -\n",
-        b"\"ij\", stop 3, two events, one answer",
-        bytes,
-        output,
-        text,
-        lines,
-        pages,
-        row,
-        out,
-    );
-    let s5 = example(
-        s4,
-        b"E5",
-        b"establish\nputs 6162636465666768696a\nreset\nputc 5a\n",
-        b"end (1,1,2)",
-        bytes,
-        output,
-        text,
-        lines,
-        pages,
-        row,
-        out,
-    );
-    example(
-        s5,
-        b"E6",
-        b"establish\nputs 616263646566\nsetc 3\nputc 58\n",
-        b"end still (1,1,7)",
-        bytes,
-        output,
-        text,
-        lines,
-        pages,
-        row,
-        out,
-    )
-}
-
-// Examples in turn.
-fn second_examples(
-    scene: Scene,
-    bytes: &mut [u8],
-    output: &mut [u8],
-    text: &mut [u8],
-    lines: &mut [u8],
-    pages: &mut [u8],
-    row: &mut [u32],
-    out: &mut [u8],
-) -> Scene {
-    let s1 = example(
-        scene,
-        b"E6, the line",
-        b"view 1 1 -\n",
-        b"\"abXdef\"",
-        bytes,
-        output,
-        text,
-        lines,
-        pages,
-        row,
-        out,
-    );
-    let s2 = example(
-        s1,
-        b"E7",
-        b"shape 2 3 10\nlend 60 6 2\nestablish\nputi 7\n",
-        b"refusal 10",
-        bytes,
-        output,
-        text,
-        lines,
-        pages,
-        row,
-        out,
-    );
-    let s3 = example(
-        s2,
-        b"E8",
-        b"shape 2 3 11\nlend 66 6 2\nestablish\nputi 7\n",
-        b"done",
-        bytes,
-        output,
-        text,
-        lines,
-        pages,
-        row,
-        out,
-    );
-    let s4 = example(
-        s3,
-        b"E8, the line",
-        b"view 1 1 -\n",
-        b"nine blanks and \"+7\"",
-        bytes,
-        output,
-        text,
-        lines,
-        pages,
-        row,
-        out,
-    );
-    let s5 = example(
-        s4,
-        b"E9",
-        b"whole 7 3 3\n",
-        b"whole(7,3) \" +7\"",
-        bytes,
-        output,
-        text,
-        lines,
-        pages,
-        row,
-        out,
-    );
-    example(
-        s5,
-        b"E9",
-        b"whole 7 -3 3\n",
-        b"whole(7,-3) \"  7\"",
-        bytes,
-        output,
-        text,
-        lines,
-        pages,
-        row,
-        out,
-    )
-}
-
-// Examples in turn.
-fn third_examples(
-    scene: Scene,
-    bytes: &mut [u8],
-    output: &mut [u8],
-    text: &mut [u8],
-    lines: &mut [u8],
-    pages: &mut [u8],
-    row: &mut [u32],
-    out: &mut [u8],
-) -> Scene {
-    let s1 = example(
-        scene,
-        b"E9",
-        b"whole 7 1 1\n",
-        b"whole(7,1) \"*\"",
-        bytes,
-        output,
-        text,
-        lines,
-        pages,
-        row,
-        out,
-    );
-    let s2 = example(
-        s1,
-        b"E9",
-        b"whole -7 -1 1\n",
-        b"whole(-7,-1) \"*\"",
-        bytes,
-        output,
-        text,
-        lines,
-        pages,
-        row,
-        out,
-    );
-    let s3 = example(
-        s2,
-        b"E10",
-        b"whole 0 0 1\n",
-        b"whole(0,0) \"0\"",
-        bytes,
-        output,
-        text,
-        lines,
-        pages,
-        row,
-        out,
-    );
-    let s4 = example(
-        s3,
-        b"E10",
-        b"whole 123 3 3\n",
-        b"whole(123,3) \"***\"",
-        bytes,
-        output,
-        text,
-        lines,
-        pages,
-        row,
-        out,
-    );
-    let s5 = example(
-        s4,
-        b"E11",
-        b"whole -2147483648 0 20\n",
-        b"refusal 9",
-        bytes,
-        output,
-        text,
-        lines,
-        pages,
-        row,
-        out,
-    );
-    example(
-        s5,
-        b"E11",
-        b"establish\nputi -2147483648\n",
-        b"refusal 9",
-        bytes,
-        output,
-        text,
-        lines,
-        pages,
-        row,
-        out,
-    )
 }
 
 fn main() {
@@ -349,9 +80,8 @@ fn main() {
     let mut pages = [0u8; 300];
     let mut row = [0u32; 80];
     let mut out = [0u8; 150000];
-    let start = scenes::first_scene();
-    let next = first_examples(
-        start,
+    let last = play_table(
+        b"E1: document 01: line 1 \"abcdefgh\", position and end (1,2,3), one event: \nestablish\nputs 6162636465666768696a\nE2: document 01: \"abcdefgh\", stop 2, (1,1,9): \nreset\ngets 20 -\nE3: document 01: empty, stop 2: \ngets 20 -\nE4: document 01: \"ij\", stop 3, two events, one answer: \nreset\ngets 20 -\nrow 20000000\ngets 20 -\nE5: document 01: end (1,1,2): \nestablish\nputs 6162636465666768696a\nreset\nputc 5a\nE6: document 01: end still (1,1,7): \nestablish\nputs 616263646566\nsetc 3\nputc 58\nE6, the line: document 01: \"abXdef\": \nview 1 1 -\nE7: document 01: refusal 10: \nshape 2 3 10\nlend 60 6 2\nestablish\nputi 7\nE8: document 01: done: \nshape 2 3 11\nlend 66 6 2\nestablish\nputi 7\nE8, the line: document 01: nine blanks and \"+7\": \nview 1 1 -\nE9: document 01: whole(7,3) \" +7\": \nwhole 7 3 3\nE9: document 01: whole(7,-3) \"  7\": \nwhole 7 -3 3\nE9: document 01: whole(7,1) \"*\": \nwhole 7 1 1\nE9: document 01: whole(-7,-1) \"*\": \nwhole -7 -1 1\nE10: document 01: whole(0,0) \"0\": \nwhole 0 0 1\nE10: document 01: whole(123,3) \"***\": \nwhole 123 3 3\nE11: document 01: refusal 9: \nwhole -2147483648 0 20\nE11: document 01: refusal 9: \nestablish\nputi -2147483648\n",
         &mut bytes,
         &mut output,
         &mut text,
@@ -360,24 +90,5 @@ fn main() {
         &mut row,
         &mut out,
     );
-    let then = second_examples(
-        next,
-        &mut bytes,
-        &mut output,
-        &mut text,
-        &mut lines,
-        &mut pages,
-        &mut row,
-        &mut out,
-    );
-    third_examples(
-        then,
-        &mut bytes,
-        &mut output,
-        &mut text,
-        &mut lines,
-        &mut pages,
-        &mut row,
-        &mut out,
-    );
+    console::write_out(&out, last.count);
 }

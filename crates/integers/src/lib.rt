@@ -131,7 +131,7 @@ pub fn passed(run: Run) -> Run
     )
 }
 
-// "good line and pass blanks".
+// "good line and pass blanks". Most often the line is good at once.
 pub fn pass_blanks(
     run: Run,
     text: &mut [u8],
@@ -144,15 +144,22 @@ pub fn pass_blanks(
 {
     let mut here = run;
     loop {
-        let good = lines::good_line(here, true, false, text, lines, pages, row);
-        if !running::goes_on(good) {
-            return good;
+        if places::line_good(here, true, lines, pages) {
+            if places::character_here(here, text) != 32 {
+                return running::finish(here);
+            }
+            here = passed(here);
+        } else {
+            let good = lines::reach_line(here, true, false, text, lines, pages, row);
+            if !running::goes_on(good) {
+                return good;
+            }
+            let at = good.run;
+            if places::character_here(at, text) != 32 {
+                return running::finish(at);
+            }
+            here = passed(at);
         }
-        let at = good.run;
-        if places::character_here(at, text) != 32 {
-            return running::finish(at);
-        }
-        here = passed(at);
     }
 }
 

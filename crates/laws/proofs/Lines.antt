@@ -12,9 +12,9 @@ use Rattle.rules.specs.declared.Position.{Position}
 use Rattle.rules.specs.declared.Run.{Run}
 use Rattle.rules.specs.declared.Ending.{Ending}
 use Rattle.rules.specs.declared.Outcome.{Outcome}
-use Rattle.rules.specs.Book.{choose, place, before, within, nextCharacter, previousCharacter, characterIndex, State, state, onRun, here, endOf, shapeOf, rightsOf, lineHere, withEnd, movedTo, mendingOf, suggested, Event, lineEnd, Answer}
-use Rattle.rules.specs.Step.{Out, done, ends, Step, _>>=_, pure, halt, refuse, refuseAt, refusal, stopped, look, change, branch, test, need, outcomeGiving, outcome, doneBy, refusedBy, stoppedBy, fileEnded, pageEnded, lineEnded, pass, signal, store, endAfter, backspace}
-use Rattle.rules.specs.Steps.{Action, goodFile, goodPage, goodLine, atLineEnd, newline, answered, putCharacter, setCharacterNumber, printable, backspaces, signals, signalWhile, upon, goodLineBody, atLineEndBody, characterEvent, putCharacterBody, spaceStep, setCharacterNumberBody, body, stage, measure, execute}
+use Rattle.rules.specs.Book.{choose, place, before, within, nextCharacter, previousCharacter, characterIndex, State, state, onRun, here, endOf, shapeOf, rightsOf, lineHere, withEnd, movedTo, mendingOf, suggested, Event, lineEnd, Answer, kindOf, nextLine, inMood}
+use Rattle.rules.specs.Step.{Out, done, ends, Step, _>>=_, pure, halt, refuse, refuseAt, refusal, stopped, look, change, branch, test, need, outcomeGiving, outcome, doneBy, refusedBy, stoppedBy, fileEnded, pageEnded, lineEnded, pass, signal, store, endAfter, backspace, onEndLine}
+use Rattle.rules.specs.Steps.{Action, goodFile, goodPage, goodLine, atLineEnd, newline, perform, answered, putCharacter, setCharacterNumber, printable, backspaces, signals, signalWhile, upon, goodLineBody, atLineEndBody, characterEvent, putCharacterBody, spaceStep, setCharacterNumberBody, body, stage, measure, execute}
 use Rattle.laws.specs.Follow.{followed}
 use Rattle.laws.specs.Runs.{onBy, storedBy}
 use Rattle.laws.proofs.Validity.{Valid, Near, near-at}
@@ -22,9 +22,26 @@ use Rattle.laws.proofs.Progress.{Gain, Ready, FileGood, PageGood, LineG
 use Rattle.laws.proofs.Walk.{Closed, at-store, post-done}
 use Rattle.laws.proofs.Unfolding.{On, unfold-execute, space-post, event-post}
 use Rattle.laws.proofs.Ways.{bind-done, bind-ends, same-then, branch-true, branch-false, test-true, test-false, need-true, need-false, look-then, signal-then, outcomeAt, outcome-is, with-value, post-done-of, done-of, Asked, is-false, is-jump, is-true, after-event, from-lower, from-default, on-default, from-answer, on-answer, from-later, signals-default, signals-followed, followed-done, followed-on, while-stays}
-use Rattle.laws.proofs.Cases.{law-goodPage, held-stays, goodFile-stays, back-done}
+use Rattle.laws.proofs.Cases.{law-goodPage, held-stays, goodFile-stays, back-done, newline-page, newline-moves, follow-perform, follow-done, perform-newline-reading}
 
 -- ---- good line, and the event at a line's end
+
+-- where the tests of good page are passed at once
+pub goodPage-at-once : (row : List ℕ) (r w : Bool) (s : State) (t : List ℕ) → Ready row (goodPage r w) s → fileEnded r (s .run) ≡ false → pageEnded (s .run) (s .lengths .pages) ≡ false → execute row (goodPage r w) s t ≡ done tt s t
+goodPage-at-once row r w s t rd f p =
+    let rf = site-lower row (goodPage r w) s rd (goodFile r w) (omega arith) .0 in
+    held-stays _ _ _ _ s t (law-goodPage row r w s t rd) (sym (goodFile-stays row r w s t rf {x = doneBy (s .run)} f refl)) p
+
+-- a newline answered while reading, in a good page and on another line than the logical end's: only the position moves
+pub follow-newline : (row : List ℕ) (r : Bool) (w : ℕ) (s : State) (t : List ℕ) → Ready row (answered r (mendingOf w)) s → {k : ℕ} → k ≡ kindOf w → k ≡ 2 → s .run .file .reading ≡ true
+    → fileEnded true (s .run) ≡ false → pageEnded (s .run) (s .lengths .pages) ≡ false → onEndLine (s .run) ≡ false
+    → {y y′ : Run} {x : Outcome} → y ≡ movedTo (s .run) (nextLine (here s)) → y′ ≡ inMood y r → x ≡ doneBy y′ → outcomeAt x s t ≡ followed row r w s t
+follow-newline row r w s t rd {k} i h e f p o {y} hy hm hx =
+    let rp = follow-perform row r w s t rd i .0 in
+    let rn = site-lower row (perform (mendingOf w)) s rp (newline true) (omega arith) .0 in
+    let g = goodPage-at-once row true false s t (newline-page row true s t rn) f p in
+    let n : done tt (onRun s y) t ≡ execute row (newline true) s t = newline-moves row true s t rn g o hy refl in
+    follow-done row r w s t rd i (λ z. let q : _≡_ {A = ℕ} 2 8 = sym h ∙ z in absurd (omega (arith, q))) (sym (perform-newline-reading row w s t rp i h e n)) hm hx
 
 module _ (row : List ℕ) (r w : Bool) (s : State) (t : List ℕ) (rd : Ready row (goodLine r w) s) where
   pub law-goodLine : execute row (goodLine r w) s t ≡ (execute row (goodPage r w) >>= λ _. signalWhile lineEnded (execute row (atLineEnd r w)) (execute row (goodLine r w))) s t
@@ -43,12 +60,7 @@ module _ (row : List ℕ) (r w : Bool) (s : State) (t : List ℕ) (rd : Ready ro
 
   -- where all three tests are passed at once
   pub goodLine-at-once : LineGood r s → execute row (goodLine r w) s t ≡ done tt s t
-  goodLine-at-once g =
-      let rp = goodLine-page in
-      let rf = site-lower row (goodPage r w) s rp (goodFile r w) (omega arith) .0 in
-      let f : execute row (goodFile r w) s t ≡ done tt s t = sym (goodFile-stays row r w s t rf {x = doneBy (s .run)} (g .0 .0) refl) in
-      let p : execute row (goodPage r w) s t ≡ done tt s t = held-stays _ _ _ _ s t (law-goodPage row r w s t rp) f (g .0 .1) in
-      held-stays _ _ _ _ s t law-goodLine p (g .1)
+  goodLine-at-once g = held-stays _ _ _ _ s t law-goodLine (goodPage-at-once row r w s t goodLine-page (g .0 .0) (g .0 .1)) (g .1)
 
   pub goodLine-quick : LineGood r s → {x : Outcome} → x ≡ doneBy (s .run) → outcomeAt x s t ≡ execute row (goodLine r w) s t
   goodLine-quick g h = outcome-is s t h ∙ sym (goodLine-at-once g)

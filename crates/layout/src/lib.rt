@@ -45,7 +45,7 @@ pub fn newline(
     if !running::goes_on(o) {
         return entry::ended(o);
     }
-    let after = events::newline(o.run, file.reading, text, lines, pages, row);
+    let after = lines::newline(o.run, file.reading, text, lines, pages, row);
     entry::ended(after)
 }
 

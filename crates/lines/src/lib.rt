@@ -4,17 +4,11 @@ use rules::Run;
 ghost use mathlib.Core.Path.{_≡_};
 ghost use lib.Dec.{T};
 ghost use mathlib.Core.Bool.{false};
-ghost use Rattle.rules.specs.Book.{state, rowFits};
+ghost use Rattle.rules.specs.Book.{state, mendingOf, rowFits};
 ghost use Rattle.rules.specs.Step.{outcomeGiving, outcome};
-ghost use Rattle.rules.specs.Steps.{Action, printable, characterEvent, spaceStep, execute};
+ghost use Rattle.rules.specs.Steps.{Action, characterEvent, spaceStep, execute};
 ghost use Rattle.rules.specs.Ready.{Ready};
-
-// Whether a byte is from 32 to 126.
-pub fn is_printable(b: u8) -> bool
-    ensures { λ r. ⌜ r ≡ printable b ⌝ }
-{
-    if 32 <= b { b <= 126 } else { false }
-}
+ghost use Rattle.laws.specs.Follow.{followed};
 
 // The outcome of a step that gives a character, and the character; it means nothing where the step ended the call.
 pub struct Taken {
@@ -52,6 +46,62 @@ pub fn character_event(
     }
 }
 
+// Newline: most often it is written at the logical end, in a page with that line, and signals nothing.
+pub fn newline(
+    run: Run,
+    reading: bool,
+    text: &mut [u8],
+    lines: &mut [u8],
+    pages: &mut [u8],
+    row: &[u32],
+) -> Outcome
+    requires { ⌜ Ready (now row) (Action.newline reading) (state run (now lines) (now pages)) ⌝ }
+    ensures { λ r. ⌜ outcome r (now (text .exit)) (now (lines .exit)) (now (pages .exit)) ≡ execute (now (row .entry)) (Action.newline reading) (state run (now (lines .entry)) (now (pages .entry))) (now (text .entry)) ⌝ }
+{
+    if reading {
+        return events::newline(run, reading, text, lines, pages, row);
+    }
+    if !places::on_end_line(run) {
+        return events::newline(run, reading, text, lines, pages, row);
+    }
+    if !places::page_good(run, reading, pages) {
+        return events::newline(run, reading, text, lines, pages, row);
+    }
+    let last = running::moved(run, run.end.page, run.end.line, run.end.character);
+    let closed = stores::end_line(last, text, lines, pages);
+    running::finish(closed)
+}
+
+// Follows an answer that is not false: most often, reading, it is a newline to another line than the logical end's, and signals nothing.
+pub fn follow(
+    run: Run,
+    word: u32,
+    reading: bool,
+    text: &mut [u8],
+    lines: &mut [u8],
+    pages: &mut [u8],
+    row: &[u32],
+) -> Outcome
+    requires { ⌜ Ready (now row) (Action.answered reading (mendingOf word)) (state run (now lines) (now pages)) ⌝ }
+    ensures { λ r. ⌜ outcome r (now (text .exit)) (now (lines .exit)) (now (pages .exit)) ≡ followed (now (row .entry)) reading word (state run (now (lines .entry)) (now (pages .entry))) (now (text .entry)) ⌝ }
+{
+    if running::kind_of(word) != 2 {
+        return events::follow(run, word, reading, text, lines, pages, row);
+    }
+    if !run.file.reading {
+        return events::follow(run, word, reading, text, lines, pages, row);
+    }
+    if !places::page_good(run, true, pages) {
+        return events::follow(run, word, reading, text, lines, pages, row);
+    }
+    if places::on_end_line(run) {
+        return events::follow(run, word, reading, text, lines, pages, row);
+    }
+    let on = running::moved(run, run.file.position.page, run.file.position.line + 1, 1);
+    let again = running::in_mood(on, reading);
+    running::finish(again)
+}
+
 // Signals line end: its default is newline, or a string's stop 2.
 pub fn line_end(
     run: Run,
@@ -71,9 +121,58 @@ pub fn line_end(
         if string {
             return running::stopped(next, 2);
         }
-        return events::newline(next, reading, text, lines, pages, row);
+        return newline(next, reading, text, lines, pages, row);
     }
-    events::follow(next, word, reading, text, lines, pages, row)
+    follow(next, word, reading, text, lines, pages, row)
+}
+
+// "Good page: good file, then signal page end while l exceeds the page length." Most often the page is good at once.
+pub fn good_page(
+    run: Run,
+    reading: bool,
+    string: bool,
+    text: &mut [u8],
+    lines: &mut [u8],
+    pages: &mut [u8],
+    row: &[u32],
+) -> Outcome
+    requires { ⌜ Ready (now row) (Action.goodPage reading string) (state run (now lines) (now pages)) ⌝ }
+    ensures { λ r. ⌜ outcome r (now (text .exit)) (now (lines .exit)) (now (pages .exit)) ≡ execute (now (row .entry)) (Action.goodPage reading string) (state run (now (lines .entry)) (now (pages .entry))) (now (text .entry)) ⌝ }
+{
+    if places::page_good(run, reading, pages) {
+        return running::finish(run);
+    }
+    events::good_page(run, reading, string, text, lines, pages, row)
+}
+
+// Good line with its events.
+pub fn reach_line(
+    run: Run,
+    reading: bool,
+    string: bool,
+    text: &mut [u8],
+    lines: &mut [u8],
+    pages: &mut [u8],
+    row: &[u32],
+) -> Outcome
+    requires { ⌜ Ready (now row) (Action.goodLine reading string) (state run (now lines) (now pages)) ⌝ }
+    ensures { λ r. ⌜ outcome r (now (text .exit)) (now (lines .exit)) (now (pages .exit)) ≡ execute (now (row .entry)) (Action.goodLine reading string) (state run (now (lines .entry)) (now (pages .entry))) (now (text .entry)) ⌝ }
+{
+    let mut here = run;
+    loop {
+        let good = good_page(here, reading, string, text, lines, pages, row);
+        if !running::goes_on(good) {
+            return good;
+        }
+        if !places::line_ended(good.run, lines, pages) {
+            return good;
+        }
+        let turned = line_end(good.run, reading, string, text, lines, pages, row);
+        if !running::goes_on(turned) {
+            return turned;
+        }
+        here = turned.run;
+    }
 }
 
 // "Good line: good page, then signal line end while c exceeds the line length." Most often the line is good at once.
@@ -92,25 +191,11 @@ pub fn good_line(
     if places::line_good(run, reading, lines, pages) {
         return running::finish(run);
     }
-    let mut here = run;
-    loop {
-        let good = events::good_page(here, reading, string, text, lines, pages, row);
-        if !running::goes_on(good) {
-            return good;
-        }
-        if !places::line_ended(good.run, lines, pages) {
-            return good;
-        }
-        let turned = line_end(good.run, reading, string, text, lines, pages, row);
-        if !running::goes_on(turned) {
-            return turned;
-        }
-        here = turned.run;
-    }
+    reach_line(run, reading, string, text, lines, pages, row)
 }
 
-// "Put a character: good line; a byte outside 32 to 126 signals character, suggesting a blank .. Store it, c+1."
-pub fn put_character(
+// Put a character with its events: each suggestion is tried from the start.
+pub fn try_character(
     run: Run,
     b: u8,
     text: &mut [u8],
@@ -125,12 +210,12 @@ pub fn put_character(
     let mut here = run;
     let mut c = b;
     loop {
-        let good = good_line(here, false, false, text, lines, pages, row);
+        let good = reach_line(here, false, false, text, lines, pages, row);
         if !running::goes_on(good) {
             return good;
         }
         let at = good.run;
-        if is_printable(c) {
+        if characters::is_printable(c) {
             let on = stores::store_character(at, text, c);
             return running::finish(on);
         }
@@ -141,6 +226,29 @@ pub fn put_character(
         c = answer.byte;
         here = answer.outcome.run;
     }
+}
+
+// "Put a character: good line; a byte outside 32 to 126 signals character, suggesting a blank .. Store it, c+1." Most often it is
+// printable, and the line is good at once.
+pub fn put_character(
+    run: Run,
+    b: u8,
+    text: &mut [u8],
+    lines: &mut [u8],
+    pages: &mut [u8],
+    row: &[u32],
+) -> Outcome
+    requires { ⌜ Ready (now row) (Action.putCharacter b) (state run (now lines) (now pages)) ⌝ }
+    requires { ⌜ T (rowFits (now row)) ⌝ }
+    ensures { λ r. ⌜ outcome r (now (text .exit)) (now (lines .exit)) (now (pages .exit)) ≡ execute (now (row .entry)) (Action.putCharacter b) (state run (now (lines .entry)) (now (pages .entry))) (now (text .entry)) ⌝ }
+{
+    if characters::is_printable(b) {
+        if places::line_good(run, false, lines, pages) {
+            let on = stores::store_character(run, text, b);
+            return running::finish(on);
+        }
+    }
+    try_character(run, b, text, lines, pages, row)
 }
 
 // "Space: good line; reading, or writing before the logical end, c+1; writing at it, put a blank."

@@ -1,1 +1,3 @@
 pub mod Indices
+pub mod Bytes
+pub mod Goods

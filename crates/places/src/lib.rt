@@ -3,12 +3,13 @@ use rules::Position;
 use rules::Run;
 use rules::Shape;
 ghost use mathlib.Core.Path.{_≡_};
-ghost use Prim.Native.Nat.{_≤_, _<_, _^_};
+ghost use Prim.Native.Nat.{_-_, _≤_, _<_, _^_};
+ghost use lib.Dec.{ltb};
 ghost use lib.ListN.{getD};
-ghost use Rattle.rules.specs.Book.{place, before, lengths, pageLength, lineIndex, lineLength, characterIndex, inBounds, state};
+ghost use Rattle.rules.specs.Book.{choose, place, before, lengths, pageLength, lineIndex, lineLength, characterIndex, inBounds, state};
 ghost use Rattle.rules.specs.Step.{fileEnded, pageEnded, lineEnded, onEndLine};
 ghost use Rattle.places.specs.Small.{Small};
-ghost use Rattle.places.specs.Good.{lineGood};
+ghost use Rattle.places.specs.Good.{pageGood, lineGood};
 
 // Whether x stands before y.
 pub fn is_before(x: Position, y: Position) -> bool
@@ -25,6 +26,27 @@ pub fn is_before(x: Position, y: Position) -> bool
     }
 }
 
+// The greater of two bytes.
+pub fn greater(a: u8, b: u8) -> u8
+    ensures { λ r. ⌜ r ≡ choose (ltb a b) b a ⌝ }
+{
+    if a < b { b } else { a }
+}
+
+// A byte as a number to count with.
+pub fn wide(b: u8) -> usize
+    ensures { λ r. ⌜ r ≡ b ⌝ }
+{
+    b as usize
+}
+
+// The lesser of two bytes.
+pub fn lesser(a: u8, b: u8) -> u8
+    ensures { λ r. ⌜ r ≡ choose (ltb a b) a b ⌝ }
+{
+    if a < b { a } else { b }
+}
+
 // Good file's test.
 pub fn file_ended(run: Run, reading: bool) -> bool
     ensures { λ r. ⌜ r ≡ fileEnded reading run ⌝ }
@@ -39,12 +61,18 @@ pub fn file_ended(run: Run, reading: bool) -> bool
     }
 }
 
+// One less, or 0.
+pub fn previous(n: usize) -> usize
+    ensures { λ r. ⌜ r ≡ n - 1 ⌝ }
+{
+    if 0 < n { n - 1 } else { 0 }
+}
+
 // The length of a page, 0 where it is not there.
 pub fn page_length(pages: &[u8], page: usize) -> usize
-    requires { ⌜ 1 ≤ page ⌝ }
     ensures { λ r. ⌜ (r ≡ pageLength (now (pages .entry)) page) × (r ≤ 255) ⌝ }
 {
-    let i = page - 1;
+    let i = previous(page);
     if i < pages.len() {
         pages[i] as usize
     } else {
@@ -54,7 +82,6 @@ pub fn page_length(pages: &[u8], page: usize) -> usize
 
 // Good page's test.
 pub fn page_ended(run: Run, pages: &[u8]) -> bool
-    requires { ⌜ 1 ≤ run .file .position .page ⌝ }
     ensures { λ r. ⌜ r ≡ pageEnded run (now (pages .entry)) ⌝ }
 {
     page_length(pages, run.file.position.page) < run.file.position.line
@@ -110,18 +137,28 @@ pub fn line_ended(run: Run, lines: &[u8], pages: &[u8]) -> bool
         < run.file.position.character
 }
 
-// Whether the position is in a good line: none of the three tests is met.
+// Whether the position is in a good line: none of the three tests is met. A page that ended has no such line, so the line's test is
+// the page's too.
 pub fn line_good(run: Run, reading: bool, lines: &[u8], pages: &[u8]) -> bool
     requires { ⌜ Small (run .file .shape) (run .file .position .page) (run .file .position .line) ⌝ }
+    requires { ⌜ 1 ≤ run .file .position .character ⌝ }
     ensures { λ r. ⌜ r ≡ lineGood reading (state run (now (lines .entry)) (now (pages .entry))) ⌝ }
 {
     if file_ended(run, reading) {
         return false;
     }
-    if page_ended(run, pages) {
+    let ended = line_ended(run, lines, pages);
+    !ended
+}
+
+// Whether the position is in a good page: neither test is met.
+pub fn page_good(run: Run, reading: bool, pages: &[u8]) -> bool
+    ensures { λ r. ⌜ r ≡ pageGood reading run (now (pages .entry)) ⌝ }
+{
+    if file_ended(run, reading) {
         return false;
     }
-    let ended = line_ended(run, lines, pages);
+    let ended = page_ended(run, pages);
     !ended
 }
 

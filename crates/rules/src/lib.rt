@@ -2,6 +2,7 @@
 // The table of its examples stands in proofs/.
 
 // A position: page, line and character, each counted from 1.
+#[repr(C)]
 pub struct Position {
     pub page: usize,
     pub line: usize,
@@ -9,6 +10,7 @@ pub struct Position {
 }
 
 // The established shape of a book: pages, lines of a page, characters of a line (document 01's P, L and C).
+#[repr(C)]
 pub struct Shape {
     pub pages: usize,
     pub lines: usize,
@@ -16,6 +18,7 @@ pub struct Shape {
 }
 
 // The five rights of a channel.
+#[repr(C)]
 pub struct Rights {
     pub get: bool,
     pub put: bool,
@@ -24,13 +27,15 @@ pub struct Rights {
     pub compress: bool,
 }
 
-// The file record. `reading` is document 01's read mood, `writing` its write mood.
+// The file record. `reading` is document 01's read mood, `writing` its write mood. The flags stand together at its end, so that the
+// numbers before them are copied as whole words.
+#[repr(C)]
 pub struct File {
+    pub position: Position,
+    pub shape: Shape,
     pub opened: bool,
     pub reading: bool,
     pub writing: bool,
-    pub position: Position,
-    pub shape: Shape,
     pub rights: Rights,
 }
 

@@ -5,7 +5,7 @@ use rules::Position;
 use rules::Run;
 ghost use mathlib.Core.Path.{_≡_};
 ghost use Prim.Native.Nat.{_<_, _^_};
-ghost use Rattle.rules.specs.Book.{place, movedTo, bothMovedTo, inMood, nextWord, signalledBy, kindOf, placeOf, mendingOf, suggested};
+ghost use Rattle.rules.specs.Book.{place, movedTo, bothMovedTo, inMood, nextWord, signalledBy, kindOf, pageOf, lineOf, characterOf, placeOf, mendingOf, suggested};
 ghost use Rattle.rules.specs.Step.{going, doneBy, refusedBy, stoppedBy};
 ghost use Rattle.running.specs.Outcomes.{backspacedBy, resetBy};
 
@@ -122,14 +122,35 @@ pub fn kind_of(word: u32) -> u32
     word >> 28
 }
 
+// The page field of an answer word: the next nine bits.
+pub fn page_of(word: u32) -> u32
+    ensures { λ r. ⌜ r ≡ pageOf word ⌝ }
+{
+    (word >> 19) & 511
+}
+
+// The line field: the nine bits after it.
+pub fn line_of(word: u32) -> u32
+    ensures { λ r. ⌜ r ≡ lineOf word ⌝ }
+{
+    (word >> 10) & 511
+}
+
+// The character field: the last ten bits.
+pub fn character_of(word: u32) -> u32
+    ensures { λ r. ⌜ r ≡ characterOf word ⌝ }
+{
+    word & 1023
+}
+
 // The three fields of an answer word as a position.
 pub fn place_of(word: u32) -> Position
     ensures { λ r. ⌜ r ≡ placeOf word ⌝ }
 {
     Position {
-        page: ((word >> 19) & 511) as usize,
-        line: ((word >> 10) & 511) as usize,
-        character: (word & 1023) as usize,
+        page: page_of(word) as usize,
+        line: line_of(word) as usize,
+        character: character_of(word) as usize,
     }
 }
 
@@ -138,8 +159,8 @@ pub fn suggestion(word: u32, b: u8) -> u8
     requires { ⌜ suggested (mendingOf word) b < 256 ⌝ }
     ensures { λ r. ⌜ r ≡ suggested (mendingOf word) b ⌝ }
 {
-    if word >> 28 == 7 {
-        (word & 1023) as u8
+    if kind_of(word) == 7 {
+        character_of(word) as u8
     } else {
         b
     }

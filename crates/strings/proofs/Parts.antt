@@ -47,6 +47,10 @@ module _ {reading : Bool} {s : State} {size room n : ℕ} (v : Valid s) (r : Roo
   pub run-there : (n ≡ 0 → ⊥) → {at : ℕ} → at ≡ characterIndex (shapeOf s) (here s) → at + n ≤ size
   run-there z e = let m : 0 < n = some-of n z in omega (arith, r .there, e, h, m)
 
+-- room for fewer
+pub room-less : {reading : Bool} {s : State} {size room n : ℕ} → Room reading s size room → n ≤ room → Room reading s size n
+room-less r h = record { good = λ k. r .good (omega (arith, h, k)); line = omega (arith, r .line, h); end = λ e. let x = r .end e in omega (arith, x, h); there = omega (arith, r .there, h) }
+
 -- the stop of a terminator
 pub stops-at : (a : ℕ) {r : Run} {o : Outcome} {t l p : List ℕ} → o ≡ stoppedBy r 1 → outcomeGiving a o t l p ≡ ends (stopped 1) (state r l p) t
 stops-at a {r} {o} {t} {l} {p} h = ap (λ (x : Outcome). outcomeGiving a x t l p) h
@@ -153,6 +157,13 @@ module _ {row terminators output₀ : List ℕ} {s₀ : State} {t₀ output : Li
     pub getting-halts : going (o .ending) ≡ false
         → (getCharacters row terminators (length output₀) [] s₀ t₀ ≡ done (aString (take (i + n) output′) (o .ending)) (state (o .run) l′ p′) t′) × (i + n ≤ length output₀) × (drop (i + n) output′ ≡ drop (i + n) output₀)
     getting-halts g = (so-far ∙ got-halts x g, omega (arith, x .within, m .size), past)
+
+    -- with no character more
+    pub getting-stops : n ≡ 0 → going (o .ending) ≡ false
+        → (getCharacters row terminators (length output₀) [] s₀ t₀ ≡ done (aString (take i output′) (o .ending)) (state (o .run) l′ p′) t′) × (i ≤ length output₀) × (drop i output′ ≡ drop i output₀)
+    getting-stops z g =
+        let e : i + n ≡ i = omega (arith, z) in
+        subst (λ (k : ℕ). (getCharacters row terminators (length output₀) [] s₀ t₀ ≡ done (aString (take k output′) (o .ending)) (state (o .run) l′ p′) t′) × (k ≤ length output₀) × (drop k output′ ≡ drop k output₀)) e (getting-halts g)
 
     pub getting-more : length output′ ≡ length output → going (o .ending) ≡ true → Getting row terminators output₀ s₀ t₀ output′ (i + n) (state (o .run) l′ p′) t′
     getting-more k g = record {

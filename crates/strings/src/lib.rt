@@ -16,13 +16,11 @@ ghost use Rattle.rules.specs.Ready.{Ready, Valid};
 ghost use Rattle.rules.specs.Calls.{aString, putCharacters, takeCharacter, oneOf, stringCharacter, getCharacters};
 ghost use Rattle.laws.specs.Runs.{every, ordinary};
 ghost use Rattle.places.specs.Good.{lineGood};
-ghost use Rattle.strings.specs.Parts.{Room, Put, Got};
-
-// The outcome of a step over a part of a string, and how many characters it put or got.
-pub struct Part {
-    pub outcome: Outcome,
-    pub count: usize,
-}
+ghost use lib.Seq.{sets};
+ghost use Rattle.rules.specs.Book.{characterIndex, movedTo};
+ghost use Rattle.laws.specs.Runs.{onBy, storedBy};
+ghost use Rattle.stores.proofs.Smalls.{SmallRun};
+ghost use Rattle.strings.specs.Parts.{Room, Storable, Takable};
 
 // What a string delivered: the running call after it, how it ended, and how many characters it got.
 pub struct Delivered {
@@ -36,61 +34,6 @@ pub fn least(a: usize, b: usize) -> usize
     ensures { λ r. ⌜ (r ≤ a) × (r ≤ b) ⌝ }
 {
     if a < b { a } else { b }
-}
-
-// Whether a byte is in the lent terminators.
-pub fn one_of(terminators: &[u8], b: u8) -> bool
-    ensures { λ r. ⌜ r ≡ oneOf (now (terminators .entry)) b ⌝ }
-{
-    let mut i = 0;
-    while i < terminators.len() {
-        if terminators[i] == b {
-            return true;
-        }
-        i += 1;
-    }
-    false
-}
-
-// Whether a byte is no terminator and signals nothing.
-pub fn is_ordinary(b: u8, terminators: &[u8]) -> bool
-    ensures { λ r. ⌜ r ≡ ordinary (now (terminators .entry)) b ⌝ }
-{
-    if lines::is_printable(b) {
-        let ends = one_of(terminators, b);
-        return !ends;
-    }
-    false
-}
-
-// How many bytes from an index on are printable, of at most a limit.
-pub fn printable_run(bytes: &[u8], from: usize, limit: usize) -> usize
-    requires { ⌜ limit ≤ length (now bytes) - from ⌝ }
-    ensures { λ r. ⌜ (r ≤ limit) × (every printable (take r (drop from (now (bytes .entry)))) ≡ true) ⌝ }
-{
-    let mut i = 0;
-    while i < limit {
-        if !lines::is_printable(bytes[from + i]) {
-            return i;
-        }
-        i += 1;
-    }
-    i
-}
-
-// How many bytes from an index on are ordinary, of at most a limit.
-pub fn ordinary_run(bytes: &[u8], from: usize, limit: usize, terminators: &[u8]) -> usize
-    requires { ⌜ limit ≤ length (now bytes) - from ⌝ }
-    ensures { λ r. ⌜ (r ≤ limit) × (every (ordinary (now (terminators .entry))) (take r (drop from (now (bytes .entry)))) ≡ true) ⌝ }
-{
-    let mut i = 0;
-    while i < limit {
-        if !is_ordinary(bytes[from + i], terminators) {
-            return i;
-        }
-        i += 1;
-    }
-    i
 }
 
 // How many characters there are from the position on, if its line is good: on the line, and, reading, before the logical end.
@@ -120,32 +63,30 @@ pub fn room_here(run: Run, reading: bool, text: &[u8], lines: &[u8], pages: &[u8
     room
 }
 
-// A run of characters, or one, of a string of which i are put.
-pub fn put_some(
+// How many characters of a string, of which i are put, can be stored at once: they are printable, and fit the line from the position on.
+pub fn run_length(
     run: Run,
     bytes: &[u8],
     i: usize,
-    text: &mut [u8],
-    lines: &mut [u8],
-    pages: &mut [u8],
-    row: &[u32],
-) -> Part
-    requires { ⌜ Ready (now row) (Action.putCharacter 0) (state run (now lines) (now pages)) ⌝ }
-    requires { ⌜ T (rowFits (now row)) ⌝ }
+    text: &[u8],
+    lines: &[u8],
+    pages: &[u8],
+) -> usize
+    requires { ⌜ Valid (state run (now lines) (now pages)) ⌝ }
     requires { ⌜ i < length (now bytes) ⌝ }
-    ensures { λ r. ⌜ Put (now (row .entry)) (now (bytes .entry)) i (state run (now (lines .entry)) (now (pages .entry))) (now (text .entry)) (r .outcome) (r .count) (now (text .exit)) (now (lines .exit)) (now (pages .exit)) ⌝ }
+    ensures { λ r. ⌜ Storable (state run (now (lines .entry)) (now (pages .entry))) (length (now (text .entry))) (now (bytes .entry)) i r ⌝ }
 {
     let room = room_here(run, false, text, lines, pages);
     let limit = least(room, bytes.len() - i);
-    let n = printable_run(bytes, i, limit);
-    if n == 0 {
-        let b = bytes[i];
-        let one = lines::put_character(run, b, text, lines, pages, row);
-        return Part {
-            outcome: one,
-            count: 1,
-        };
-    }
+    characters::printable_run(bytes, i, limit)
+}
+
+// Stores some characters of a string from the i-th on, at the position.
+pub fn store_some(run: Run, bytes: &[u8], i: usize, n: usize, text: &mut [u8]) -> Run
+    requires { ⌜ SmallRun run ⌝ }
+    requires { ⌜ (run .file .position .character + n ≤ 256) × (characterIndex (run .file .shape) (run .file .position) + n ≤ length (now text)) × (i + n ≤ length (now bytes)) ⌝ }
+    ensures { λ r. ⌜ (r ≡ storedBy n run) × (now (text .exit) ≡ sets (now (text .entry)) (characterIndex (run .file .shape) (run .file .position)) (take n (drop i (now (bytes .entry))))) ⌝ }
+{
     let shape = run.file.shape;
     let at = places::character_index(
         shape,
@@ -154,14 +95,10 @@ pub fn put_some(
         run.file.position.character,
     );
     stores::store_run(text, at, bytes, i, n);
-    let on = stores::stored(run, n);
-    Part {
-        outcome: running::finish(on),
-        count: n,
-    }
+    stores::stored(run, n)
 }
 
-// "Put a string: its characters in turn".
+// "Put a string: its characters in turn": runs of ordinary ones at once, any other by itself.
 pub fn put_string(
     run: Run,
     bytes: &[u8],
@@ -177,12 +114,19 @@ pub fn put_string(
     let mut here = run;
     let mut i = 0;
     while i < bytes.len() {
-        let put = put_some(here, bytes, i, text, lines, pages, row);
-        if !running::goes_on(put.outcome) {
-            return put.outcome;
+        let n = run_length(here, bytes, i, text, lines, pages);
+        if n == 0 {
+            let b = bytes[i];
+            let one = lines::try_character(here, b, text, lines, pages, row);
+            if !running::goes_on(one) {
+                return one;
+            }
+            here = one.run;
+            i += 1;
+        } else {
+            here = store_some(here, bytes, i, n, text);
+            i += n;
         }
-        here = put.outcome.run;
-        i += put.count;
     }
     running::finish(here)
 }
@@ -207,7 +151,7 @@ pub fn take_character(
         run.file.position.line,
         run.file.position.character + 1,
     );
-    if lines::is_printable(b) {
+    if characters::is_printable(b) {
         return Taken {
             outcome: running::finish(on),
             byte: b,
@@ -237,7 +181,7 @@ pub fn string_character(
         };
     }
     let b = places::character_here(good.run, text);
-    if one_of(terminators, b) {
+    if characters::one_of(terminators, b) {
         return Taken {
             outcome: running::stopped(good.run, 1),
             byte: 0,
@@ -246,51 +190,43 @@ pub fn string_character(
     take_character(good.run, text, lines, pages, row)
 }
 
-// A run of characters, or one, of a string of which i stand in the output.
-pub fn get_some(
+// How many characters can be got at once, of at most a limit: ordinary ones from the position on, before the logical end.
+pub fn ready_length(
     run: Run,
     terminators: &[u8],
-    output: &mut [u8],
-    i: usize,
-    text: &mut [u8],
-    lines: &mut [u8],
-    pages: &mut [u8],
-    row: &[u32],
-) -> Part
-    requires { ⌜ Ready (now row) Action.passBlanks (state run (now lines) (now pages)) ⌝ }
-    requires { ⌜ T (rowFits (now row)) ⌝ }
-    requires { ⌜ i < length (now output) ⌝ }
-    ensures { λ r. ⌜ Got (now (row .entry)) (now (terminators .entry)) (now (output .entry)) i (state run (now (lines .entry)) (now (pages .entry))) (now (text .entry)) (r .outcome) (r .count) (now (output .exit)) (now (text .exit)) (now (lines .exit)) (now (pages .exit)) ⌝ }
+    limit: usize,
+    text: &[u8],
+    lines: &[u8],
+    pages: &[u8],
+) -> usize
+    requires { ⌜ Valid (state run (now lines) (now pages)) ⌝ }
+    ensures { λ r. ⌜ Takable (now (terminators .entry)) (state run (now (lines .entry)) (now (pages .entry))) (now (text .entry)) limit r ⌝ }
 {
     let room = room_here(run, true, text, lines, pages);
-    let limit = least(room, output.len() - i);
+    let most = least(room, limit);
+    let shape = run.file.shape;
+    let at = places::character_index(
+        shape,
+        run.file.position.page,
+        run.file.position.line,
+        run.file.position.character,
+    );
+    characters::ordinary_run(text, at, most, terminators)
+}
+
+// Takes some characters from the position on into the output, from the i-th place on, and passes them.
+pub fn take_some(run: Run, text: &[u8], output: &mut [u8], i: usize, n: usize) -> Run
+    requires { ⌜ SmallRun run ⌝ }
+    requires { ⌜ (run .file .position .character + n ≤ 256) × (characterIndex (run .file .shape) (run .file .position) + n ≤ length (now text)) × (i + n ≤ length (now output)) ⌝ }
+    ensures { λ r. ⌜ (r ≡ movedTo run (onBy n (run .file .position))) × (now (output .exit) ≡ sets (now (output .entry)) i (take n (drop (characterIndex (run .file .shape) (run .file .position)) (now (text .entry))))) ⌝ }
+{
     let shape = run.file.shape;
     let page = run.file.position.page;
     let line = run.file.position.line;
     let character = run.file.position.character;
     let at = places::character_index(shape, page, line, character);
-    let n = ordinary_run(text, at, limit, terminators);
-    if n == 0 {
-        let got = string_character(run, terminators, text, lines, pages, row);
-        let after = got.outcome;
-        if !running::goes_on(after) {
-            return Part {
-                outcome: after,
-                count: 0,
-            };
-        }
-        output[i] = got.byte;
-        return Part {
-            outcome: after,
-            count: 1,
-        };
-    }
     stores::store_run(output, i, text, at, n);
-    let on = running::moved(run, page, line, character + n);
-    Part {
-        outcome: running::finish(on),
-        count: n,
-    }
+    running::moved(run, page, line, character + n)
 }
 
 // "Get a string": its characters into the lent output, up to a stop or a refusal.
@@ -310,19 +246,26 @@ pub fn get_string(
     let mut here = run;
     let mut i = 0;
     while i < output.len() {
-        let got = get_some(here, terminators, output, i, text, lines, pages, row);
-        let after = got.outcome;
-        let at = after.run;
-        let ending = after.ending;
-        i += got.count;
-        if !running::goes_on(after) {
-            return Delivered {
-                run: at,
-                ending: ending,
-                count: i,
-            };
+        let n = ready_length(here, terminators, output.len() - i, text, lines, pages);
+        if n == 0 {
+            let got = string_character(here, terminators, text, lines, pages, row);
+            let after = got.outcome;
+            let at = after.run;
+            let ending = after.ending;
+            if !running::goes_on(after) {
+                return Delivered {
+                    run: at,
+                    ending: ending,
+                    count: i,
+                };
+            }
+            output[i] = got.byte;
+            here = at;
+            i += 1;
+        } else {
+            here = take_some(here, text, output, i, n);
+            i += n;
         }
-        here = at;
     }
     Delivered {
         run: here,

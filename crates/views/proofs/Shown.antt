@@ -7,7 +7,7 @@ use mathlib.Core.Bool.{Bool, true, false, not, _&&_}
 use mathlib.Core.List.{List, [], _∷_}
 use lib.Dec.{T, leb, eqb, leb→le}
 use lib.ListN.{length, take, drop, getD, length-drop, List·getD-eq-default}
-use lib.Seq.{length-take-le}
+use lib.Seq.{length-take-le, take-length}
 use borrow.Author.Tests.{le-leb, lt-leb, leb-true, leb-false, eq-eqb, ne-eqb, eqb-true, eqb-false}
 use Rattle.rules.specs.declared.Position.{Position}
 use Rattle.rules.specs.declared.File.{File}
@@ -17,7 +17,7 @@ use Rattle.rules.specs.declared.Shape.{Shape}
 use Rattle.rules.specs.Book.{choose, place, before, within, Lengths, pageLength, lineIndex, lineLength, characterIndex, State, state, runWith, endOf, shapeOf, allFits}
 use Rattle.rules.specs.Step.{Out, done, ends, Step, _>>=_, _>>_, pure, refusal, need, attempt, refusedBy}
 use Rattle.rules.specs.Ready.{Rules, Valid}
-use Rattle.rules.specs.Calls.{Value, nothing, aView, begin, shown, shownLength, shownPart, orMarker, viewing, viewNumber, leave, After, after, book, call, work, plainWork, bufferOf, plain, views, viewNumbers}
+use Rattle.rules.specs.Calls.{Value, nothing, aView, begin, shown, shownLength, shownPart, orMarker, viewing, viewNumber, leave, After, after, Book, book, call, work, plainWork, bufferOf, plain, views, viewNumbers}
 use Rattle.places.specs.Small.{Small}
 use Rattle.laws.proofs.Order.{and-l, and-r}
 use Rattle.laws.proofs.Validity.{page-length-le, line-length-le}
@@ -26,7 +26,8 @@ use Rattle.laws.proofs.Entry.{Fits, fits-facts}
 use Rattle.entry.specs.Before.{beforeWork, refusedReply}
 use Rattle.begins.proofs.Begins.{startOf, begin-is, checked-fits, checked-no, checked-on, reply-ends, reply-nothing}
 use Rattle.views.specs.declared.Span.{Span}
-use Rattle.views.specs.Spans.{span, noSpan, lineSpan, spanOf, viewAfter}
+use Rattle.views.specs.declared.ViewPlace.{ViewPlace}
+use Rattle.views.specs.Spans.{span, noSpan, lineSpan, spanOf, viewAfter, numberAfter, viewPlace, placeOf, Viewed}
 
 -- ---- a line of the book lies in the text
 
@@ -243,8 +244,22 @@ module _ (p l : ℕ) (file : File) (end : Position) (t ls ps : List ℕ) {r : Ru
     unfolding call work plainWork bufferOf leave
     view-call bs e = sym (ap (leave []) e)
 
-    pub call-refused : (x .number ≡ 0 → ⊥) → viewAfter [] file (book t ls ps end) ≡ call (plain (views p l marker)) file (book t ls ps end)
-    call-refused z = view-call [] (view-refused p l (startOf file end ls ps) t marker (λ e. z (same-number ∙ e)))
+    abbrev Place : ViewPlace → Type 0
+    Place at = Viewed p l marker file (book t ls ps end) at
+
+    placed : placeOf x (length marker) ≡ placeOf (spanOf p l (length t) (startOf file end ls ps)) (length marker)
+    placed = ap (λ (y : Span). placeOf y (length marker)) from-start
+
+    numbered : numberAfter (x .number) file (book t ls ps end) ≡ call (plain (viewNumbers p l)) file (book t ls ps end)
+    numbered = number-call {reply = refusedReply (runWith file end 0 0) (x .number)} (ap (λ (y : Run). refusedReply y (x .number)) (sym er))
+
+    pub place-refused : (x .number ≡ 0 → ⊥) → Place (viewPlace (x .number) true 0 0)
+    place-refused z = record {
+      place = sym (ap (λ (b : Bool). choose b (choose (eqb (x .count) 0) (viewPlace 0 true 0 (length marker)) (viewPlace 0 false (x .from) (x .count))) (viewPlace (x .number) true 0 0)) (ne-eqb (x .number) 0 z)) ∙ placed;
+      number = numbered;
+      inside = omega arith;
+      characters = view-call [] (view-refused p l (startOf file end ls ps) t marker (λ e. z (same-number ∙ e)));
+    }
 
     module _ (z : x .number ≡ 0) where
       there : (spanOf p l (length t) (startOf file end ls ps) ≡ lineSpan p l (startOf file end ls ps)) × (characterIndex (file .shape) (place p l 1) + shownLength p l (startOf file end ls ps) ≤ length t) × (length t ≤ 65536)
@@ -256,14 +271,45 @@ module _ (p l : ℕ) (file : File) (end : Position) (t ls ps : List ℕ) {r : Ru
       from-is : x .from ≡ characterIndex (file .shape) (place p l 1)
       from-is = ap (λ (y : Span). y .from) (from-start ∙ there .0)
 
-      pub span-in-text : (x .from + x .count ≤ length t) × (length t ≤ 65536)
-      span-in-text = (omega (arith, there .1, count-is, from-is), there .2)
+      placed-there : choose (eqb (x .count) 0) (viewPlace 0 true 0 (length marker)) (viewPlace 0 false (x .from) (x .count)) ≡ placeOf (spanOf p l (length t) (startOf file end ls ps)) (length marker)
+      placed-there = sym (ap (λ (b : Bool). choose b (choose (eqb (x .count) 0) (viewPlace 0 true 0 (length marker)) (viewPlace 0 false (x .from) (x .count))) (viewPlace (x .number) true 0 0)) (eq-eqb (x .number) 0 z)) ∙ placed
 
-      pub call-empty : x .count ≡ 0 → viewAfter marker file (book t ls ps end) ≡ call (plain (views p l marker)) file (book t ls ps end)
-      call-empty e = view-call marker (view-empty p l (startOf file end ls ps) t marker (sym same-number ∙ z) (sym count-is ∙ e))
+      numbered-there : numberAfter 0 file (book t ls ps end) ≡ call (plain (viewNumbers p l)) file (book t ls ps end)
+      numbered-there = ap (λ (n : ℕ). numberAfter n file (book t ls ps end)) (sym z) ∙ numbered
 
-      pub call-shown : (x .count ≡ 0 → ⊥) → viewAfter (take (x .from + x .count - x .from) (drop (x .from) t)) file (book t ls ps end) ≡ call (plain (views p l marker)) file (book t ls ps end)
-      call-shown e =
-          let m : x .from + x .count - x .from ≡ shownLength p l (startOf file end ls ps) = omega (arith, count-is) in
-          let w : take (x .from + x .count - x .from) (drop (x .from) t) ≡ take (shownLength p l (startOf file end ls ps)) (drop (characterIndex (file .shape) (place p l 1)) t) = ap (λ (n : ℕ). take n (drop (x .from) t)) m ∙ ap (λ (n : ℕ). take (shownLength p l (startOf file end ls ps)) (drop n t)) from-is in
-          ap (λ (bs : List ℕ). viewAfter bs file (book t ls ps end)) w ∙ view-call _ (view-shown p l (startOf file end ls ps) t marker (sym same-number ∙ z) (λ k. e (count-is ∙ k)))
+      pub place-empty : x .count ≡ 0 → Place (viewPlace 0 true 0 (length marker))
+      place-empty e = record {
+        place = sym (ap (λ (b : Bool). choose b (viewPlace 0 true 0 (length marker)) (viewPlace 0 false (x .from) (x .count))) (eq-eqb (x .count) 0 e)) ∙ placed-there;
+        number = numbered-there;
+        inside = omega arith;
+        characters = ap (λ (bs : List ℕ). viewAfter bs file (book t ls ps end)) (take-length marker) ∙ view-call marker (view-empty p l (startOf file end ls ps) t marker (sym same-number ∙ z) (sym count-is ∙ e));
+      }
+
+      pub place-shown : (x .count ≡ 0 → ⊥) → Place (viewPlace 0 false (x .from) (x .count))
+      place-shown e = record {
+        place = sym (ap (λ (b : Bool). choose b (viewPlace 0 true 0 (length marker)) (viewPlace 0 false (x .from) (x .count))) (ne-eqb (x .count) 0 e)) ∙ placed-there;
+        number = numbered-there;
+        inside = omega (arith, there .1, count-is, from-is);
+        characters = ap (λ (bs : List ℕ). viewAfter bs file (book t ls ps end)) (ap (λ (n : ℕ). take n (drop (x .from) t)) count-is ∙ ap (λ (n : ℕ). take (shownLength p l (startOf file end ls ps)) (drop n t)) from-is)
+            ∙ view-call _ (view-shown p l (startOf file end ls ps) t marker (sym same-number ∙ z) (λ k. e (count-is ∙ k)));
+      }
+
+-- ---- a view by its numbers: which of the two lent texts, from where, and how many
+
+module _ (p l : ℕ) (marker : List ℕ) (file : File) (b : Book) (x : ViewPlace) (v : Viewed p l marker file b x) where
+  -- the part's end is the sum of the two
+  pub part-is : (bs : List ℕ) → bs ≡ choose (x .marker) marker (b .text) → viewAfter (take (x .from + x .count - x .from) (drop (x .from) bs)) file b ≡ call (plain (views p l marker)) file b
+  part-is bs e =
+      let m : x .from + x .count - x .from ≡ x .count = omega arith in
+      ap (λ (n : ℕ). viewAfter (take n (drop (x .from) bs)) file b) m ∙ ap (λ (y : List ℕ). viewAfter (take (x .count) (drop (x .from) y)) file b) e ∙ v .characters
+
+  pub part-in : (bs : List ℕ) → bs ≡ choose (x .marker) marker (b .text) → x .from + x .count ≤ length bs
+  part-in bs e = omega (arith, v .inside, ap length e)
+
+  -- whichever it is
+  pub part-in-one : x .from + x .count ≤ length marker + length (b .text)
+  part-in-one = by (x .marker) (v .inside)
+    where
+      by : (c : Bool) → x .from + x .count ≤ length (choose c marker (b .text)) → x .from + x .count ≤ length marker + length (b .text)
+      by true h = omega (arith, h)
+      by false h = omega (arith, h)

@@ -10,7 +10,7 @@ ghost use lib.ListN.{length};
 ghost use Rattle.rules.specs.Book.{state, runWith};
 ghost use Rattle.rules.specs.Calls.{book, call, after, plain, views, viewNumbers, shown, shownLength};
 ghost use Rattle.places.specs.Small.{Small};
-ghost use Rattle.views.specs.Spans.{spanOf, viewAfter};
+ghost use Rattle.views.specs.Spans.{spanOf, viewAfter, viewPlace, Viewed};
 
 // "a shown line (there in its page, and not after the logical end's line ..)".
 pub fn is_shown(run: Run, page: usize, line: usize, lines: &[u8], pages: &[u8]) -> bool
@@ -108,6 +108,51 @@ pub fn view_number(
     entry::refuse(start, span.number)
 }
 
+// Where what a view hands back lies, and its number: in the marker text or in the text, from an index on, and how many characters.
+#[repr(C)]
+pub struct ViewPlace {
+    pub number: u8,
+    pub marker: bool,
+    pub from: usize,
+    pub count: usize,
+}
+
+// A view by its numbers.
+pub fn view_at(number: u8, marker: bool, from: usize, count: usize) -> ViewPlace
+    ensures { λ r. ⌜ r ≡ viewPlace number marker from count ⌝ }
+{
+    ViewPlace {
+        number: number,
+        marker: marker,
+        from: from,
+        count: count,
+    }
+}
+
+// The line view in numbers: a shown line in the text; the whole marker where it is empty, and no part of it where it is refused.
+pub fn view_place(
+    file: File,
+    end: Position,
+    page: usize,
+    line: usize,
+    text: &[u8],
+    lines: &[u8],
+    pages: &[u8],
+    marker: &[u8],
+) -> ViewPlace
+    ensures { λ r. ⌜ Viewed page line (now (marker .entry)) file (book (now (text .entry)) (now (lines .entry)) (now (pages .entry)) end) r ⌝ }
+{
+    let start = entry::start(file, end);
+    let span = span_of(start, page, line, text, lines, pages);
+    if span.number != 0 {
+        return view_at(span.number, true, 0, 0);
+    }
+    if span.count == 0 {
+        return view_at(0, true, 0, marker.len());
+    }
+    view_at(0, false, span.from, span.count)
+}
+
 // The line view: the part of the text that holds a shown line; the marker where it is empty, and no part of it where it is refused.
 pub fn line_view<'a>(
     file: File,
@@ -121,15 +166,12 @@ pub fn line_view<'a>(
 ) -> &'a [u8]
     ensures { λ r. ⌜ viewAfter (now r) file (book (now (text .entry)) (now (lines .entry)) (now (pages .entry)) end) ≡ call (plain (views page line (now (marker .entry)))) file (book (now (text .entry)) (now (lines .entry)) (now (pages .entry)) end) ⌝ }
 {
-    let start = entry::start(file, end);
-    let span = span_of(start, page, line, text, lines, pages);
-    if span.number != 0 {
-        return &marker[..0];
+    let place = view_place(file, end, page, line, text, lines, pages, marker);
+    let from = place.from;
+    let to = from + place.count;
+    if place.marker {
+        &marker[from..to]
+    } else {
+        &text[from..to]
     }
-    if span.count == 0 {
-        return marker;
-    }
-    let from = span.from;
-    let to = from + span.count;
-    &text[from..to]
 }

@@ -117,6 +117,7 @@ pub fn width_of(v: i32, w: i32) -> usize
 }
 
 // What a call of whole hands back beside the lent output: its number, and how many characters it wrote.
+#[repr(C)]
 pub struct Wrote {
     pub number: u8,
     pub count: usize,

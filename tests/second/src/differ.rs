@@ -141,6 +141,12 @@ fn make_batch(seed: u64, from: u64, to: u64) -> Batch {
     batch
 }
 
+/// Random episodes as one script, for a program that is not started from here.
+pub fn scripts(seed: u64, episodes: u64) -> Vec<u8> {
+    let batch = make_batch(seed, 0, episodes);
+    batch.episodes.iter().flat_map(script_bytes).collect()
+}
+
 /// The first episode of a batch whose output differs, if any does.
 fn first_difference(batch: &Batch, reply: &Reply) -> Option<usize> {
     if batch.output == reply.output && reply.remark.is_empty() {

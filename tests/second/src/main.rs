@@ -1,16 +1,17 @@
-//! `second replay`, `second differ` and `second check`.
+//! `second replay`, `second differ`, `second check` and `second scripts`.
 
 use std::io::{Read, Write};
 use std::process::ExitCode;
 use std::time::{SystemTime, UNIX_EPOCH};
 
-use second::differ::{differ, Options};
+use second::differ::{differ, scripts, Options};
 use second::replay::Player;
 use second::{checks, say};
 
 const USAGE: &str = "usage: second replay < SCRIPT
        second differ --ours PATH [--seed N] [--episodes N] [--seconds N]
-       second check [--seed N] [--episodes N]";
+       second check [--seed N] [--episodes N]
+       second scripts [--seed N] [--episodes N] > SCRIPT";
 
 /// Reads a script on standard input and writes what it plays, piece by piece.
 fn run_replay() -> std::io::Result<()> {
@@ -96,6 +97,13 @@ fn run_check(options: &Options) -> bool {
     failed == 0
 }
 
+/// `second scripts`: writes random episodes as one script; the seed goes to standard error.
+fn run_scripts(options: &Options) -> bool {
+    let _ = writeln!(std::io::stderr(), "second: seed {}", options.seed);
+    let script = scripts(options.seed, options.episodes);
+    std::io::stdout().lock().write_all(&script).is_ok()
+}
+
 fn main() -> ExitCode {
     let words: Vec<String> = std::env::args().skip(1).collect();
     let command = words.first().map_or("", String::as_str);
@@ -106,6 +114,7 @@ fn main() -> ExitCode {
             .filter(|options| !options.ours.is_empty())
             .map(|options| run_differ(&options)),
         "check" => fill_options(rest, 5_000).map(|options| run_check(&options)),
+        "scripts" => fill_options(rest, 100).map(|options| run_scripts(&options)),
         _ => None,
     };
     match done {

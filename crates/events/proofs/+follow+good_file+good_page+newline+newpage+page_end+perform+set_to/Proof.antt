@@ -212,7 +212,7 @@ good-page-returns : (t : ℕ) → good-page-lts.Need-returns (good-page-calls t)
 good-page-returns t c = hands-on (c .before .before .before .before .before .before .before .before .good-file .result) ((c .before .before .before .before .before .before .before .before .before .before .before .before .loop .inv .0) .same ∙ held-ends _ _ _ _ _ _ (law-goodPage _ _ _ _ (c .before .before .before .before .before .before .before .before .before .before .before .before .loop .text) (c .before .before .before .before .before .before .before .before .before .before .before .before .loop .inv .0 .from .ready)) (halted (c .before .before .before .before .before .before .before .before .good-file .result) (c .before .before .before .before .before .before .before .before .good-file .ensures) (sym (c .before .goes-on .ensures) ∙ not-true _ (c .if1 .taken)))) (sym (c .before .goes-on .ensures) ∙ not-true _ (c .if1 .taken))
 
 good-page-page-ended-requires : (t : ℕ) → good-page-lts.Need-page-ended-requires (good-page-calls t) (good-page-at t) good-page.Post good-page-Inv-loop good-page-μ-loop
-good-page-page-ended-requires t c κs = near-at ((goodPage-from _ _ _ _ (c .before .before .before .before .before .before .before .before .before .before .before .before .before .loop .text) (c .before .before .before .before .before .before .before .before .before .before .before .before .before .loop .inv .0 .from .ready) (reached (c .before .before .before .before .before .before .before .before .before .good-file .result) (c .before .before .before .before .before .before .before .before .before .good-file .ensures) (sym (c .before .before .goes-on .ensures) ∙ not-false _ (c .before .if1 .left)))) .ready .valid) .page-low
+good-page-page-ended-requires t c κs = tt
 
 good-page-returns-2 : (t : ℕ) → good-page-lts.Need-returns-2 (good-page-calls t) (good-page-at t) good-page.Post good-page-Inv-loop good-page-μ-loop
 good-page-returns-2 t c = hands-done (c .before .before .before .before .before .before .before .before .before .before .before .good-file .result) ((c .before .before .before .before .before .before .before .before .before .before .before .before .before .before .before .loop .inv .0) .same ∙ held-stays _ _ _ _ _ _ (law-goodPage _ _ _ _ (c .before .before .before .before .before .before .before .before .before .before .before .before .before .before .before .loop .text) (c .before .before .before .before .before .before .before .before .before .before .before .before .before .before .before .loop .inv .0 .from .ready)) (reached (c .before .before .before .before .before .before .before .before .before .before .before .good-file .result) (c .before .before .before .before .before .before .before .before .before .before .before .good-file .ensures) (sym (c .before .before .before .before .goes-on .ensures) ∙ not-false _ (c .before .before .before .if1 .left))) (sym (c .before .page-ended .ensures) ∙ not-true _ (c .if2 .taken))) (sym (c .before .before .before .before .goes-on .ensures) ∙ not-false _ (c .before .before .before .if1 .left))

@@ -63,4 +63,6 @@ sign-before-spec =
     (λ c. c .before .before .before .before .before .before .pass-blanks3 .kept .1 .1 .1 .0 ∙ c .before .before .before .before .before .before .before .before .before .before .before .before .before .before .before .before .before .before .before .before .before .before .before .before .pass-blanks .kept .1 .1 .1 .0)
     returns-3 pass-blanks-requires-4
     (λ c. c .before .before .before .before .before .before .pass-blanks4 .kept .1 .0 ∙ c .before .before .before .before .before .before .before .before .before .before .before .before .before .before .before .before .before .before .before .before .before .before .before .pass-blanks .kept .1 .0)
-    (λ c. search needs) (λ c. search needs) returns-4)
+    (λ c. c .before .before .before .before .before .before .pass-blanks4 .kept .1 .1 .0 ∙ c .before .before .before .before .before .before .before .before .before .before .before .before .before .before .before .before .before .before .before .before .before .before .before .pass-blanks .kept .1 .1 .0)
+    (λ c. c .before .before .before .before .before .before .pass-blanks4 .kept .1 .1 .1 .0 ∙ c .before .before .before .before .before .before .before .before .before .before .before .before .before .before .before .before .before .before .before .before .before .before .before .pass-blanks .kept .1 .1 .1 .0)
+    returns-4)

@@ -1,70 +1,52 @@
-use borrow.Author.Needs.{needs}
-use Rattle.laws.proofs.Ways.{reached, halted, hands-on, hands-done, from-lower, from-default, from-answer, Looped, looped-start, looped-on, looped-again, looped-less}
-use Rattle.rules.specs.Steps.{Action, measure}
-use Rattle.rules.specs.Book.{state, mendingOf}
-use borrow.Author.Tests.{not-true, not-false}
-use lib.ListN.{length}
-use mathlib.Core.Path.{_≡_, refl, sym, ap, _∙_}
-use native.Mathlib.Omega.{arith}
 use Rattle.lines.proofs.Good.{good-facts}
+use Rattle.laws.proofs.Lines.{goodLine-quick}
 use Rattle.stores.proofs.Smalls.{here-small}
-use Rattle.laws.proofs.Lines.{law-goodLine, goodLine-page, goodLine-from, goodLine-on, goodLine-quick}
-use Rattle.laws.proofs.Cases.{held-ends, held-stays, held-event-ends, held-again}
+use mathlib.Core.Path.{sym, _∙_}
+use borrow.Author.Needs.{needs}
 use Rattle.lines.proofs.good_line.Statement.{statement}
 use Rattle.lines.proofs.good_line.Tie as tie
 
-abbrev Inv-loop : tie.InvT-loop
-Inv-loop reading string text₀ lines₀ pages₀ row here₀ text lines pages here = Looped row (Action.goodLine reading string) (state here₀ lines₀ pages₀) text₀ (state here lines pages) text × (length text ≡ length text₀) × (length lines ≡ length lines₀) × (length pages ≡ length pages₀)
+line-good-requires : tie.Need-line-good-requires
+line-good-requires c κs = let h = here-small (c .before .before .before .before .before .before .pre .valid) in (h .0, h .1 .0)
 
-abbrev μ-loop : tie.MeasureT-loop
-μ-loop reading string text₀ lines₀ pages₀ row here₀ text lines pages here = measure row (Action.goodLine reading string) (state here lines pages)
+finish-requires : tie.Need-finish-requires
+finish-requires c κs = search needs
 
-line-good-requires : tie.Need-line-good-requires Inv-loop μ-loop
-line-good-requires c κs = here-small (c .before .before .before .before .before .before .pre .valid) .0
+same-length : tie.Need-same-length
+same-length c = search needs
 
-returns : tie.Need-returns Inv-loop μ-loop
+same-length-2 : tie.Need-same-length-2
+same-length-2 c = search needs
+
+returns : tie.Need-returns
 returns c = goodLine-quick _ _ _ _ (c .before .before .before .before .before .before .before .before .before .args .text .now) (c .before .before .before .before .before .before .before .before .before .pre) (good-facts _ _ (sym (c .before .before .line-good .ensures) ∙ c .before .if1 .taken)) (c .finish .ensures)
 
-loop-holds : tie.Need-loop-holds Inv-loop μ-loop
-loop-holds c = (looped-start (c .before .before .before .before .before .before .before .before .args .text .now) (c .before .before .before .before .before .before .before .before .pre), refl, refl, refl)
+reach-line-requires : tie.Need-reach-line-requires
+reach-line-requires c κs = search needs
 
-good-page-requires : tie.Need-good-page-requires Inv-loop μ-loop
-good-page-requires c κs = from-lower ((c .before .before .before .loop .inv .0) .from) (Action.goodPage (c .before .before .before .before .before .before .before .before .before .before .before .before .args .reading) (c .before .before .before .before .before .before .before .before .before .before .before .before .args .string)) (omega arith) .0
+same-length-3 : tie.Need-same-length-3
+same-length-3 c = search needs
 
-returns-2 : tie.Need-returns-2 Inv-loop μ-loop
-returns-2 c = hands-on (c .before .before .before .before .before .before .before .before .good-page .result) ((c .before .before .before .before .before .before .before .before .before .before .before .before .loop .inv .0) .same ∙ held-ends _ _ _ _ _ _ (law-goodLine _ _ _ _ (c .before .before .before .before .before .before .before .before .before .before .before .before .loop .text) (c .before .before .before .before .before .before .before .before .before .before .before .before .loop .inv .0 .from .ready)) (halted (c .before .before .before .before .before .before .before .before .good-page .result) (c .before .before .before .before .before .before .before .before .good-page .ensures) (sym (c .before .goes-on .ensures) ∙ not-true _ (c .if2 .taken)))) (sym (c .before .goes-on .ensures) ∙ not-true _ (c .if2 .taken))
+same-length-4 : tie.Need-same-length-4
+same-length-4 c = search needs
 
-line-ended-requires : tie.Need-line-ended-requires Inv-loop μ-loop
-line-ended-requires c κs = here-small ((goodLine-from _ _ _ _ (c .before .before .before .before .before .before .before .before .before .before .before .before .before .before .loop .text) (c .before .before .before .before .before .before .before .before .before .before .before .before .before .before .loop .inv .0 .from .ready) (reached (c .before .before .before .before .before .before .before .before .before .before .good-page .result) (c .before .before .before .before .before .before .before .before .before .before .good-page .ensures) (sym (c .before .before .before .goes-on .ensures) ∙ not-false _ (c .before .before .if2 .left)))) .ready .valid) .0
+same-length-5 : tie.Need-same-length-5
+same-length-5 c = search needs
 
-returns-3 : tie.Need-returns-3 Inv-loop μ-loop
-returns-3 c = hands-done (c .before .before .before .before .before .before .before .before .before .before .before .before .good-page .result) ((c .before .before .before .before .before .before .before .before .before .before .before .before .before .before .before .before .loop .inv .0) .same ∙ held-stays _ _ _ _ _ _ (law-goodLine _ _ _ _ (c .before .before .before .before .before .before .before .before .before .before .before .before .before .before .before .before .loop .text) (c .before .before .before .before .before .before .before .before .before .before .before .before .before .before .before .before .loop .inv .0 .from .ready)) (reached (c .before .before .before .before .before .before .before .before .before .before .before .before .good-page .result) (c .before .before .before .before .before .before .before .before .before .before .before .before .good-page .ensures) (sym (c .before .before .before .before .before .goes-on .ensures) ∙ not-false _ (c .before .before .before .before .if2 .left))) (sym (c .before .line-ended .ensures) ∙ not-true _ (c .if3 .taken))) (sym (c .before .before .before .before .before .goes-on .ensures) ∙ not-false _ (c .before .before .before .before .if2 .left))
-
-line-end-requires : tie.Need-line-end-requires Inv-loop μ-loop
-line-end-requires c κs = from-lower (looped-on (c .before .before .before .before .before .before .before .before .before .before .before .before .before .before .before .before .before .before .before .loop .inv .0) (goodLine-from _ _ _ _ (c .before .before .before .before .before .before .before .before .before .before .before .before .before .before .before .before .before .before .before .loop .text) (c .before .before .before .before .before .before .before .before .before .before .before .before .before .before .before .before .before .before .before .loop .inv .0 .from .ready) (reached (c .before .before .before .before .before .before .before .before .before .before .before .before .before .before .before .good-page .result) (c .before .before .before .before .before .before .before .before .before .before .before .before .before .before .before .good-page .ensures) (sym (c .before .before .before .before .before .before .before .before .goes-on .ensures) ∙ not-false _ (c .before .before .before .before .before .before .before .if2 .left))))) (Action.atLineEnd (c .before .before .before .before .before .before .before .before .before .before .before .before .before .before .before .before .before .before .before .before .before .before .before .before .before .before .before .before .args .reading) (c .before .before .before .before .before .before .before .before .before .before .before .before .before .before .before .before .before .before .before .before .before .before .before .before .before .before .before .before .args .string)) (omega arith) .0
-
-returns-4 : tie.Need-returns-4 Inv-loop μ-loop
-returns-4 c = hands-on (c .before .before .before .before .before .before .before .before .line-end .result) ((c .before .before .before .before .before .before .before .before .before .before .before .before .before .before .before .before .before .before .before .before .before .before .before .before .before .before .before .before .loop .inv .0) .same ∙ held-event-ends _ _ _ _ _ _ (law-goodLine _ _ _ _ (c .before .before .before .before .before .before .before .before .before .before .before .before .before .before .before .before .before .before .before .before .before .before .before .before .before .before .before .before .loop .text) (c .before .before .before .before .before .before .before .before .before .before .before .before .before .before .before .before .before .before .before .before .before .before .before .before .before .before .before .before .loop .inv .0 .from .ready)) (reached (c .before .before .before .before .before .before .before .before .before .before .before .before .before .before .before .before .before .before .before .before .before .before .before .before .good-page .result) (c .before .before .before .before .before .before .before .before .before .before .before .before .before .before .before .before .before .before .before .before .before .before .before .before .good-page .ensures) (sym (c .before .before .before .before .before .before .before .before .before .before .before .before .before .before .before .before .before .goes-on .ensures) ∙ not-false _ (c .before .before .before .before .before .before .before .before .before .before .before .before .before .before .before .before .if2 .left))) (sym (c .before .before .before .before .before .before .before .before .before .before .before .before .before .line-ended .ensures) ∙ not-false _ (c .before .before .before .before .before .before .before .before .before .before .before .before .if3 .left)) (halted (c .before .before .before .before .before .before .before .before .line-end .result) (c .before .before .before .before .before .before .before .before .line-end .ensures) (sym (c .before .goes-on2 .ensures) ∙ not-true _ (c .if4 .taken)))) (sym (c .before .goes-on2 .ensures) ∙ not-true _ (c .if4 .taken))
-
-loop-less : tie.Need-loop-less Inv-loop μ-loop
-loop-less c = looped-less (c .before .before .before .before .before .before .before .before .before .before .before .before .before .before .before .before .before .before .before .before .before .before .before .before .before .before .before .before .before .loop .inv .0) (goodLine-from _ _ _ _ (c .before .before .before .before .before .before .before .before .before .before .before .before .before .before .before .before .before .before .before .before .before .before .before .before .before .before .before .before .before .loop .text) (c .before .before .before .before .before .before .before .before .before .before .before .before .before .before .before .before .before .before .before .before .before .before .before .before .before .before .before .before .before .loop .inv .0 .from .ready) (reached (c .before .before .before .before .before .before .before .before .before .before .before .before .before .before .before .before .before .before .before .before .before .before .before .before .before .good-page .result) (c .before .before .before .before .before .before .before .before .before .before .before .before .before .before .before .before .before .before .before .before .before .before .before .before .before .good-page .ensures) (sym (c .before .before .before .before .before .before .before .before .before .before .before .before .before .before .before .before .before .before .goes-on .ensures) ∙ not-false _ (c .before .before .before .before .before .before .before .before .before .before .before .before .before .before .before .before .before .if2 .left)))) (goodLine-on _ _ _ _ (c .before .before .before .before .before .before .before .before .before .before .before .before .before .before .before .before .before .before .before .before .before .before .before .before .before .before .before .before .before .loop .text) (c .before .before .before .before .before .before .before .before .before .before .before .before .before .before .before .before .before .before .before .before .before .before .before .before .before .before .before .before .before .loop .inv .0 .from .ready) (reached (c .before .before .before .before .before .before .before .before .before .before .before .before .before .before .before .before .before .before .before .before .before .before .before .before .before .good-page .result) (c .before .before .before .before .before .before .before .before .before .before .before .before .before .before .before .before .before .before .before .before .before .before .before .before .before .good-page .ensures) (sym (c .before .before .before .before .before .before .before .before .before .before .before .before .before .before .before .before .before .before .goes-on .ensures) ∙ not-false _ (c .before .before .before .before .before .before .before .before .before .before .before .before .before .before .before .before .before .if2 .left))) (reached (c .before .before .before .before .before .before .before .before .before .line-end .result) (c .before .before .before .before .before .before .before .before .before .line-end .ensures) (sym (c .before .before .goes-on2 .ensures) ∙ not-false _ (c .before .if4 .left))))
-
-loop-again : tie.Need-loop-again Inv-loop μ-loop
-loop-again c = (looped-again (c .before .before .before .before .before .before .before .before .before .before .before .before .before .before .before .before .before .before .before .before .before .before .before .before .before .before .before .before .before .loop .inv .0) (goodLine-from _ _ _ _ (c .before .before .before .before .before .before .before .before .before .before .before .before .before .before .before .before .before .before .before .before .before .before .before .before .before .before .before .before .before .loop .text) (c .before .before .before .before .before .before .before .before .before .before .before .before .before .before .before .before .before .before .before .before .before .before .before .before .before .before .before .before .before .loop .inv .0 .from .ready) (reached (c .before .before .before .before .before .before .before .before .before .before .before .before .before .before .before .before .before .before .before .before .before .before .before .before .before .good-page .result) (c .before .before .before .before .before .before .before .before .before .before .before .before .before .before .before .before .before .before .before .before .before .before .before .before .before .good-page .ensures) (sym (c .before .before .before .before .before .before .before .before .before .before .before .before .before .before .before .before .before .before .goes-on .ensures) ∙ not-false _ (c .before .before .before .before .before .before .before .before .before .before .before .before .before .before .before .before .before .if2 .left)))) (goodLine-on _ _ _ _ (c .before .before .before .before .before .before .before .before .before .before .before .before .before .before .before .before .before .before .before .before .before .before .before .before .before .before .before .before .before .loop .text) (c .before .before .before .before .before .before .before .before .before .before .before .before .before .before .before .before .before .before .before .before .before .before .before .before .before .before .before .before .before .loop .inv .0 .from .ready) (reached (c .before .before .before .before .before .before .before .before .before .before .before .before .before .before .before .before .before .before .before .before .before .before .before .before .before .good-page .result) (c .before .before .before .before .before .before .before .before .before .before .before .before .before .before .before .before .before .before .before .before .before .before .before .before .before .good-page .ensures) (sym (c .before .before .before .before .before .before .before .before .before .before .before .before .before .before .before .before .before .before .goes-on .ensures) ∙ not-false _ (c .before .before .before .before .before .before .before .before .before .before .before .before .before .before .before .before .before .if2 .left))) (reached (c .before .before .before .before .before .before .before .before .before .line-end .result) (c .before .before .before .before .before .before .before .before .before .line-end .ensures) (sym (c .before .before .goes-on2 .ensures) ∙ not-false _ (c .before .if4 .left)))) (held-again _ _ _ _ _ _ (law-goodLine _ _ _ _ (c .before .before .before .before .before .before .before .before .before .before .before .before .before .before .before .before .before .before .before .before .before .before .before .before .before .before .before .before .before .loop .text) (c .before .before .before .before .before .before .before .before .before .before .before .before .before .before .before .before .before .before .before .before .before .before .before .before .before .before .before .before .before .loop .inv .0 .from .ready)) (reached (c .before .before .before .before .before .before .before .before .before .before .before .before .before .before .before .before .before .before .before .before .before .before .before .before .before .good-page .result) (c .before .before .before .before .before .before .before .before .before .before .before .before .before .before .before .before .before .before .before .before .before .before .before .before .before .good-page .ensures) (sym (c .before .before .before .before .before .before .before .before .before .before .before .before .before .before .before .before .before .before .goes-on .ensures) ∙ not-false _ (c .before .before .before .before .before .before .before .before .before .before .before .before .before .before .before .before .before .if2 .left))) (sym (c .before .before .before .before .before .before .before .before .before .before .before .before .before .before .line-ended .ensures) ∙ not-false _ (c .before .before .before .before .before .before .before .before .before .before .before .before .before .if3 .left)) (reached (c .before .before .before .before .before .before .before .before .before .line-end .result) (c .before .before .before .before .before .before .before .before .before .line-end .ensures) (sym (c .before .before .goes-on2 .ensures) ∙ not-false _ (c .before .if4 .left)))), c .before .before .before .before .before .before .before .before .before .line-end .kept .1 .1 .1 .0 ∙ c .before .before .before .before .before .before .before .before .before .before .before .before .before .before .before .before .before .before .before .before .before .before .before .before .before .good-page .kept .1 .1 .1 .0 ∙ c .before .before .before .before .before .before .before .before .before .before .before .before .before .before .before .before .before .before .before .before .before .before .before .before .before .before .before .before .before .loop .inv .1, c .before .before .before .before .before .before .before .before .before .line-end .kept .1 .1 .1 .1 .0 ∙ c .before .before .before .before .before .before .before .before .before .before .before .before .before .before .before .before .before .before .before .before .before .before .before .before .before .good-page .kept .1 .1 .1 .1 .0 ∙ c .before .before .before .before .before .before .before .before .before .before .before .before .before .before .before .before .before .before .before .before .before .before .before .before .before .before .before .before .before .loop .inv .2, c .before .before .before .before .before .before .before .before .before .line-end .kept .1 .1 .1 .1 .1 .0 ∙ c .before .before .before .before .before .before .before .before .before .before .before .before .before .before .before .before .before .before .before .before .before .before .before .before .before .good-page .kept .1 .1 .1 .1 .1 .0 ∙ c .before .before .before .before .before .before .before .before .before .before .before .before .before .before .before .before .before .before .before .before .before .before .before .before .before .before .before .before .before .loop .inv .3)
+returns-2 : tie.Need-returns-2
+returns-2 c = search needs
 
 pub good-line-spec : {M : Type 1} → statement M
 good-line-spec =
-    tie.close (tie.spec Inv-loop μ-loop line-good-requires (λ c κs. search needs) (λ c. search needs) (λ c. search needs) returns
-    loop-holds good-page-requires (λ c κs. search needs)
-    (λ c. c .before .before .before .before .before .before .before .before .good-page .kept .1 .1 .1 .0 ∙ c .before .before .before .before .before .before .before .before .before .before .before .before .loop .inv .1)
-    (λ c. c .before .before .before .before .before .before .before .before .good-page .kept .1 .1 .1 .1 .0 ∙ c .before .before .before .before .before .before .before .before .before .before .before .before .loop .inv .2)
-    (λ c. c .before .before .before .before .before .before .before .before .good-page .kept .1 .1 .1 .1 .1 .0 ∙ c .before .before .before .before .before .before .before .before .before .before .before .before .loop .inv .3)
-    returns-2 line-ended-requires
-    (λ c. c .before .before .before .before .before .before .before .before .before .before .before .before .good-page .kept .1 .1 .1 .0 ∙ c .before .before .before .before .before .before .before .before .before .before .before .before .before .before .before .before .loop .inv .1)
-    (λ c. c .before .before .before .before .before .before .before .before .before .before .before .before .good-page .kept .1 .1 .1 .1 .0 ∙ c .before .before .before .before .before .before .before .before .before .before .before .before .before .before .before .before .loop .inv .2)
-    (λ c. c .before .before .before .before .before .before .before .before .before .before .before .before .good-page .kept .1 .1 .1 .1 .1 .0 ∙ c .before .before .before .before .before .before .before .before .before .before .before .before .before .before .before .before .loop .inv .3)
-    returns-3 line-end-requires (λ c κs. search needs)
-    (λ c. c .before .before .before .before .before .before .before .before .line-end .kept .1 .1 .1 .0 ∙ c .before .before .before .before .before .before .before .before .before .before .before .before .before .before .before .before .before .before .before .before .before .before .before .before .good-page .kept .1 .1 .1 .0 ∙ c .before .before .before .before .before .before .before .before .before .before .before .before .before .before .before .before .before .before .before .before .before .before .before .before .before .before .before .before .loop .inv .1)
-    (λ c. c .before .before .before .before .before .before .before .before .line-end .kept .1 .1 .1 .1 .0 ∙ c .before .before .before .before .before .before .before .before .before .before .before .before .before .before .before .before .before .before .before .before .before .before .before .before .good-page .kept .1 .1 .1 .1 .0 ∙ c .before .before .before .before .before .before .before .before .before .before .before .before .before .before .before .before .before .before .before .before .before .before .before .before .before .before .before .before .loop .inv .2)
-    (λ c. c .before .before .before .before .before .before .before .before .line-end .kept .1 .1 .1 .1 .1 .0 ∙ c .before .before .before .before .before .before .before .before .before .before .before .before .before .before .before .before .before .before .before .before .before .before .before .before .good-page .kept .1 .1 .1 .1 .1 .0 ∙ c .before .before .before .before .before .before .before .before .before .before .before .before .before .before .before .before .before .before .before .before .before .before .before .before .before .before .before .before .loop .inv .3)
-    returns-4 loop-less loop-again)
+    tie.close
+    (tie.spec
+    line-good-requires
+    finish-requires
+    same-length
+    same-length-2
+    returns
+    reach-line-requires
+    same-length-3
+    same-length-4
+    same-length-5
+    returns-2)

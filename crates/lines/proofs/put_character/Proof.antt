@@ -1,63 +1,66 @@
-use borrow.Author.Needs.{needs}
-use Rattle.laws.proofs.Ways.{reached, halted, hands-on, hands-done, from-lower, from-default, from-answer, Looped, looped-start, looped-on, looped-again, looped-less}
-use Rattle.rules.specs.Steps.{Action, measure}
-use Rattle.rules.specs.Book.{state, mendingOf}
-use borrow.Author.Tests.{not-true, not-false}
-use lib.ListN.{length}
-use mathlib.Core.Path.{_≡_, refl, sym, ap, _∙_}
-use native.Mathlib.Omega.{arith}
+use Rattle.lines.proofs.Good.{good-facts}
+use Rattle.laws.proofs.Lines.{goodLine-at-once, put-line, put-stores}
 use Rattle.stores.proofs.Smalls.{here-small}
-use Rattle.laws.proofs.Ways.{gives, gives-none, hands-on}
-use Rattle.laws.proofs.Progress.{ready-as}
-use Rattle.laws.proofs.Lines.{Trying, put-line, put-ends, put-done, put-from, put-stores, put-event-ends, trying-again, trying-less}
+use Rattle.rules.specs.Book.{state}
+use mathlib.Core.Bool.{false}
+use mathlib.Core.Path.{sym, _∙_}
+use borrow.Author.Needs.{needs}
 use Rattle.lines.proofs.put_character.Statement.{statement}
 use Rattle.lines.proofs.put_character.Tie as tie
 
-abbrev Inv-loop : tie.InvT-loop
-Inv-loop b text₀ lines₀ pages₀ row here₀ c₀ text lines pages here c = Trying row c₀ (state here₀ lines₀ pages₀) text₀ c (state here lines pages) text × (length text ≡ length text₀) × (length lines ≡ length lines₀) × (length pages ≡ length pages₀)
+is-printable-requires : tie.Need-is-printable-requires
+is-printable-requires c κs = search needs
 
-abbrev μ-loop : tie.MeasureT-loop
-μ-loop b text₀ lines₀ pages₀ row here₀ c₀ text lines pages here c = measure row (Action.putCharacter c) (state here lines pages)
+line-good-requires : tie.Need-line-good-requires
+line-good-requires c κs = let h = here-small (c .before .before .before .before .before .before .before .before .pre .0 .valid) in (h .0, h .1 .0)
 
-loop-holds : tie.Need-loop-holds Inv-loop μ-loop
-loop-holds c = (record { ready = c .before .before .before .before .pre .0; same = refl }, refl, refl, refl)
+store-character-requires : tie.Need-store-character-requires
+store-character-requires c κs = here-small (c .before .before .before .before .before .before .before .before .before .before .before .pre .0 .valid)
 
-good-line-requires : tie.Need-good-line-requires Inv-loop μ-loop
-good-line-requires c κs = put-line _ _ _ (c .before .before .before .loop .text) (c .before .before .before .loop .inv .0 .ready)
+finish-requires : tie.Need-finish-requires
+finish-requires c κs = search needs
 
-returns : tie.Need-returns Inv-loop μ-loop
-returns c = hands-on (c .before .before .before .before .before .before .before .before .good-line .result) ((c .before .before .before .before .before .before .before .before .before .before .before .before .loop .inv .0) .same ∙ put-ends _ _ _ (c .before .before .before .before .before .before .before .before .before .before .before .before .loop .text) (c .before .before .before .before .before .before .before .before .before .before .before .before .loop .inv .0 .ready) (halted (c .before .before .before .before .before .before .before .before .good-line .result) (c .before .before .before .before .before .before .before .before .good-line .ensures) (sym (c .before .goes-on .ensures) ∙ not-true _ (c .if1 .taken)))) (sym (c .before .goes-on .ensures) ∙ not-true _ (c .if1 .taken))
+same-length : tie.Need-same-length
+same-length c = search needs
 
-store-character-requires : tie.Need-store-character-requires Inv-loop μ-loop
-store-character-requires c κs = here-small (put-done _ _ _ (c .before .before .before .before .before .before .before .before .before .before .before .before .before .before .before .before .loop .text) (c .before .before .before .before .before .before .before .before .before .before .before .before .before .before .before .before .loop .inv .0 .ready) (reached (c .before .before .before .before .before .before .before .before .before .before .before .before .good-line .result) (c .before .before .before .before .before .before .before .before .before .before .before .before .good-line .ensures) (sym (c .before .before .before .before .before .goes-on .ensures) ∙ not-false _ (c .before .before .before .before .if1 .left))) .valid)
+same-length-2 : tie.Need-same-length-2
+same-length-2 c = search needs
 
-returns-2 : tie.Need-returns-2 Inv-loop μ-loop
-returns-2 c = put-stores _ _ _ (c .before .before .before .before .before .before .before .before .before .before .before .before .before .before .before .before .before .before .before .before .loop .text) (c .before .before .before .before .before .before .before .before .before .before .before .before .before .before .before .before .before .before .before .before .loop .inv .0 .ready) (reached (c .before .before .before .before .before .before .before .before .before .before .before .before .before .before .before .before .good-line .result) (c .before .before .before .before .before .before .before .before .before .before .before .before .before .before .before .before .good-line .ensures) (sym (c .before .before .before .before .before .before .before .before .before .goes-on .ensures) ∙ not-false _ (c .before .before .before .before .before .before .before .before .if1 .left))) (sym (c .before .before .before .before .before .before .is-printable .ensures) ∙ c .before .before .before .before .before .if2 .taken) (c .before .before .before .store-character .ensures .0) (c .before .before .before .store-character .ensures .1) (c .finish .ensures) ∙ sym ((c .before .before .before .before .before .before .before .before .before .before .before .before .before .before .before .before .before .before .before .before .loop .inv .0) .same)
+same-length-3 : tie.Need-same-length-3
+same-length-3 c = search needs
 
-character-event-requires : tie.Need-character-event-requires Inv-loop μ-loop
-character-event-requires c κs = (ready-as _ _ _ (put-from _ _ _ (c .before .before .before .before .before .before .before .before .before .before .before .before .before .before .before .before .before .before .loop .text) (c .before .before .before .before .before .before .before .before .before .before .before .before .before .before .before .before .before .before .loop .inv .0 .ready) (reached (c .before .before .before .before .before .before .before .before .before .before .before .before .before .before .good-line .result) (c .before .before .before .before .before .before .before .before .before .before .before .before .before .before .good-line .ensures) (sym (c .before .before .before .before .before .before .before .goes-on .ensures) ∙ not-false _ (c .before .before .before .before .before .before .if1 .left))) .ready) Action.passBlanks (omega arith), c .before .before .before .before .before .before .before .before .before .before .before .before .before .before .before .before .before .before .before .before .before .before .before .pre .1)
+returns : tie.Need-returns
+returns c = put-stores _ _ (state (c .before .before .before .before .before .before .before .before .before .before .before .before .before .before .before .args .run) (c .before .before .before .before .before .before .before .before .before .before .before .before .before .before .before .args .lines .now) (c .before .before .before .before .before .before .before .before .before .before .before .before .before .before .before .args .pages .now)) (c .before .before .before .before .before .before .before .before .before .before .before .before .before .before .before .args .text .now) (c .before .before .before .before .before .before .before .before .before .before .before .before .before .before .before .pre .0) (goodLine-at-once (c .before .before .before .before .before .before .before .before .before .before .before .before .before .before .before .args .row .now) false false (state (c .before .before .before .before .before .before .before .before .before .before .before .before .before .before .before .args .run) (c .before .before .before .before .before .before .before .before .before .before .before .before .before .before .before .args .lines .now) (c .before .before .before .before .before .before .before .before .before .before .before .before .before .before .before .args .pages .now)) (c .before .before .before .before .before .before .before .before .before .before .before .before .before .before .before .args .text .now) (put-line _ _ (state (c .before .before .before .before .before .before .before .before .before .before .before .before .before .before .before .args .run) (c .before .before .before .before .before .before .before .before .before .before .before .before .before .before .before .args .lines .now) (c .before .before .before .before .before .before .before .before .before .before .before .before .before .before .before .args .pages .now)) (c .before .before .before .before .before .before .before .before .before .before .before .before .before .before .before .args .text .now) (c .before .before .before .before .before .before .before .before .before .before .before .before .before .before .before .pre .0)) (good-facts _ _ (sym (c .before .before .before .before .before .before .line-good .ensures) ∙ c .before .before .before .before .before .if2 .taken))) (sym (c .before .before .before .before .before .before .before .before .before .before .is-printable .ensures) ∙ c .before .before .before .before .before .before .before .before .before .if1 .taken) (c .before .before .before .store-character .ensures .0) (c .before .before .before .store-character .ensures .1) (c .finish .ensures)
 
-returns-3 : tie.Need-returns-3 Inv-loop μ-loop
-returns-3 c = hands-on (c .before .before .before .before .before .before .before .before .before .character-event .result .outcome) ((c .before .before .before .before .before .before .before .before .before .before .before .before .before .before .before .before .before .before .before .before .before .before .before .before .before .before .before .before .loop .inv .0) .same ∙ put-event-ends _ _ _ (c .before .before .before .before .before .before .before .before .before .before .before .before .before .before .before .before .before .before .before .before .before .before .before .before .before .before .before .before .loop .text) (c .before .before .before .before .before .before .before .before .before .before .before .before .before .before .before .before .before .before .before .before .before .before .before .before .before .before .before .before .loop .inv .0 .ready) (reached (c .before .before .before .before .before .before .before .before .before .before .before .before .before .before .before .before .before .before .before .before .before .before .before .before .good-line .result) (c .before .before .before .before .before .before .before .before .before .before .before .before .before .before .before .before .before .before .before .before .before .before .before .before .good-line .ensures) (sym (c .before .before .before .before .before .before .before .before .before .before .before .before .before .before .before .before .before .goes-on .ensures) ∙ not-false _ (c .before .before .before .before .before .before .before .before .before .before .before .before .before .before .before .before .if1 .left))) (sym (c .before .before .before .before .before .before .before .before .before .before .before .before .before .before .is-printable .ensures) ∙ c .before .before .before .before .before .before .before .before .before .before .before .before .before .if2 .left) (gives-none (c .before .before .before .before .before .before .before .before .before .character-event .result .byte) (c .before .before .before .before .before .before .before .before .before .character-event .result .outcome) (c .before .before .before .before .before .before .before .before .before .character-event .ensures) (sym (c .before .before .goes-on2 .ensures) ∙ not-true _ (c .before .if3 .taken)))) (sym (c .before .before .goes-on2 .ensures) ∙ not-true _ (c .before .if3 .taken))
+try-character-requires : tie.Need-try-character-requires
+try-character-requires c κs = search needs
 
-loop-less : tie.Need-loop-less Inv-loop μ-loop
-loop-less c = trying-less _ _ _ (c .before .before .before .before .before .before .before .before .before .before .before .before .before .before .before .before .before .before .before .before .before .before .before .before .before .before .before .before .loop .text) (c .before .before .before .before .before .before .before .before .before .before .before .before .before .before .before .before .before .before .before .before .before .before .before .before .before .before .before .before .loop .inv .0 .ready) (reached (c .before .before .before .before .before .before .before .before .before .before .before .before .before .before .before .before .before .before .before .before .before .before .before .before .good-line .result) (c .before .before .before .before .before .before .before .before .before .before .before .before .before .before .before .before .before .before .before .before .before .before .before .before .good-line .ensures) (sym (c .before .before .before .before .before .before .before .before .before .before .before .before .before .before .before .before .before .goes-on .ensures) ∙ not-false _ (c .before .before .before .before .before .before .before .before .before .before .before .before .before .before .before .before .if1 .left))) (sym (c .before .before .before .before .before .before .before .before .before .before .before .before .before .before .is-printable .ensures) ∙ c .before .before .before .before .before .before .before .before .before .before .before .before .before .if2 .left) (gives (c .before .before .before .before .before .before .before .before .before .character-event .result .byte) (c .before .before .before .before .before .before .before .before .before .character-event .result .outcome) (c .before .before .before .before .before .before .before .before .before .character-event .ensures) (sym (c .before .before .goes-on2 .ensures) ∙ not-false _ (c .before .if3 .left)))
+same-length-4 : tie.Need-same-length-4
+same-length-4 c = search needs
 
-loop-again : tie.Need-loop-again Inv-loop μ-loop
-loop-again c = (trying-again _ _ _ (c .before .before .before .before .before .before .before .before .before .before .before .before .before .before .before .before .before .before .before .before .before .before .before .before .before .before .before .before .loop .text) (c .before .before .before .before .before .before .before .before .before .before .before .before .before .before .before .before .before .before .before .before .before .before .before .before .before .before .before .before .loop .inv .0 .ready) (reached (c .before .before .before .before .before .before .before .before .before .before .before .before .before .before .before .before .before .before .before .before .before .before .before .before .good-line .result) (c .before .before .before .before .before .before .before .before .before .before .before .before .before .before .before .before .before .before .before .before .before .before .before .before .good-line .ensures) (sym (c .before .before .before .before .before .before .before .before .before .before .before .before .before .before .before .before .before .goes-on .ensures) ∙ not-false _ (c .before .before .before .before .before .before .before .before .before .before .before .before .before .before .before .before .if1 .left))) (sym (c .before .before .before .before .before .before .before .before .before .before .before .before .before .before .is-printable .ensures) ∙ c .before .before .before .before .before .before .before .before .before .before .before .before .before .if2 .left) (gives (c .before .before .before .before .before .before .before .before .before .character-event .result .byte) (c .before .before .before .before .before .before .before .before .before .character-event .result .outcome) (c .before .before .before .before .before .before .before .before .before .character-event .ensures) (sym (c .before .before .goes-on2 .ensures) ∙ not-false _ (c .before .if3 .left))) (c .before .before .before .before .before .before .before .before .before .before .before .before .before .before .before .before .before .before .before .before .before .before .before .before .before .before .before .before .loop .inv .0), c .before .before .before .before .before .before .before .before .before .character-event .kept .1 .1 .1 .0 ∙ c .before .before .before .before .before .before .before .before .before .before .before .before .before .before .before .before .before .before .before .before .before .before .before .before .good-line .kept .1 .1 .1 .0 ∙ c .before .before .before .before .before .before .before .before .before .before .before .before .before .before .before .before .before .before .before .before .before .before .before .before .before .before .before .before .loop .inv .1, c .before .before .before .before .before .before .before .before .before .character-event .kept .1 .1 .1 .1 .0 ∙ c .before .before .before .before .before .before .before .before .before .before .before .before .before .before .before .before .before .before .before .before .before .before .before .before .good-line .kept .1 .1 .1 .1 .0 ∙ c .before .before .before .before .before .before .before .before .before .before .before .before .before .before .before .before .before .before .before .before .before .before .before .before .before .before .before .before .loop .inv .2, c .before .before .before .before .before .before .before .before .before .character-event .kept .1 .1 .1 .1 .1 .0 ∙ c .before .before .before .before .before .before .before .before .before .before .before .before .before .before .before .before .before .before .before .before .before .before .before .before .good-line .kept .1 .1 .1 .1 .1 .0 ∙ c .before .before .before .before .before .before .before .before .before .before .before .before .before .before .before .before .before .before .before .before .before .before .before .before .before .before .before .before .loop .inv .3)
+same-length-5 : tie.Need-same-length-5
+same-length-5 c = search needs
+
+same-length-6 : tie.Need-same-length-6
+same-length-6 c = search needs
+
+returns-2 : tie.Need-returns-2
+returns-2 c = search needs
 
 pub put-character-spec : {M : Type 1} → statement M
 put-character-spec =
-    tie.close (tie.spec Inv-loop μ-loop loop-holds good-line-requires (λ c κs. search needs)
-    (λ c. c .before .before .before .before .before .before .before .before .good-line .kept .1 .1 .1 .0 ∙ c .before .before .before .before .before .before .before .before .before .before .before .before .loop .inv .1)
-    (λ c. c .before .before .before .before .before .before .before .before .good-line .kept .1 .1 .1 .1 .0 ∙ c .before .before .before .before .before .before .before .before .before .before .before .before .loop .inv .2)
-    (λ c. c .before .before .before .before .before .before .before .before .good-line .kept .1 .1 .1 .1 .1 .0 ∙ c .before .before .before .before .before .before .before .before .before .before .before .before .loop .inv .3)
-    returns (λ c κs. search needs) store-character-requires (λ c κs. search needs)
-    (λ c. c .before .before .before .store-character .kept .1 .0 ∙ c .before .before .before .before .before .before .before .before .before .before .before .before .before .before .before .before .good-line .kept .1 .1 .1 .0 ∙ c .before .before .before .before .before .before .before .before .before .before .before .before .before .before .before .before .before .before .before .before .loop .inv .1)
-    (λ c. c .before .before .before .before .before .before .before .before .before .before .before .before .before .before .before .before .good-line .kept .1 .1 .1 .1 .0 ∙ c .before .before .before .before .before .before .before .before .before .before .before .before .before .before .before .before .before .before .before .before .loop .inv .2)
-    (λ c. c .before .before .before .before .before .before .before .before .before .before .before .before .before .before .before .before .good-line .kept .1 .1 .1 .1 .1 .0 ∙ c .before .before .before .before .before .before .before .before .before .before .before .before .before .before .before .before .before .before .before .before .loop .inv .3)
-    returns-2 character-event-requires (λ c κs. search needs)
-    (λ c. c .before .before .before .before .before .before .before .before .before .character-event .kept .1 .1 .1 .0 ∙ c .before .before .before .before .before .before .before .before .before .before .before .before .before .before .before .before .before .before .before .before .before .before .before .before .good-line .kept .1 .1 .1 .0 ∙ c .before .before .before .before .before .before .before .before .before .before .before .before .before .before .before .before .before .before .before .before .before .before .before .before .before .before .before .before .loop .inv .1)
-    (λ c. c .before .before .before .before .before .before .before .before .before .character-event .kept .1 .1 .1 .1 .0 ∙ c .before .before .before .before .before .before .before .before .before .before .before .before .before .before .before .before .before .before .before .before .before .before .before .before .good-line .kept .1 .1 .1 .1 .0 ∙ c .before .before .before .before .before .before .before .before .before .before .before .before .before .before .before .before .before .before .before .before .before .before .before .before .before .before .before .before .loop .inv .2)
-    (λ c. c .before .before .before .before .before .before .before .before .before .character-event .kept .1 .1 .1 .1 .1 .0 ∙ c .before .before .before .before .before .before .before .before .before .before .before .before .before .before .before .before .before .before .before .before .before .before .before .before .good-line .kept .1 .1 .1 .1 .1 .0 ∙ c .before .before .before .before .before .before .before .before .before .before .before .before .before .before .before .before .before .before .before .before .before .before .before .before .before .before .before .before .loop .inv .3)
-    returns-3 loop-less loop-again)
+    tie.close
+    (tie.spec
+    is-printable-requires
+    line-good-requires
+    store-character-requires
+    finish-requires
+    same-length
+    same-length-2
+    same-length-3
+    returns
+    try-character-requires
+    same-length-4
+    same-length-5
+    same-length-6
+    returns-2)

@@ -1,22 +1,38 @@
-use lib.Bits.{and-le-r, and-mask}
-use native.Mathlib.Omega.{arith}
-use Prim.Native.Nat.{_/_, _^_}
 use Rattle.rules.specs.Book.{placeOf}
+use borrow.Author.Needs.{needs}
 use Rattle.running.proofs.place_of.Statement.{statement}
 use Rattle.running.proofs.place_of.Tie as tie
 
-cast-t4 : tie.Need-cast-t4
-cast-t4 c = omega (arith, and-le-r (c .args .word / 2 ^ 19) 511)
+page-of-requires : tie.Need-page-of-requires
+page-of-requires c κs = search needs
+
+cast-t3 : tie.Need-cast-t3
+cast-t3 c = search needs
+
+line-of-requires : tie.Need-line-of-requires
+line-of-requires c κs = search needs
+
+cast-t5 : tie.Need-cast-t5
+cast-t5 c = search needs
+
+character-of-requires : tie.Need-character-of-requires
+character-of-requires c κs = search needs
 
 cast-t7 : tie.Need-cast-t7
-cast-t7 c = omega (arith, and-le-r (c .args .word / 2 ^ 10) 511)
-
-cast-t9 : tie.Need-cast-t9
-cast-t9 c = omega (arith, and-le-r (c .args .word) 1023)
+cast-t7 c = search needs
 
 returns : tie.Need-returns
 unfolding placeOf
-returns c = simp (and-mask (c .args .word / 2 ^ 19) 9, and-mask (c .args .word / 2 ^ 10) 9, and-mask (c .args .word) 10)
+returns c = cc
 
 pub place-of-spec : {M : Type 1} → statement M
-place-of-spec = tie.close (tie.spec cast-t4 cast-t7 cast-t9 returns)
+place-of-spec =
+    tie.close
+    (tie.spec
+    page-of-requires
+    cast-t3
+    line-of-requires
+    cast-t5
+    character-of-requires
+    cast-t7
+    returns)

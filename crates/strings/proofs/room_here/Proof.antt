@@ -10,7 +10,7 @@ use Rattle.strings.proofs.room_here.Statement.{statement}
 use Rattle.strings.proofs.room_here.Tie as tie
 
 line-good-requires : tie.Need-line-good-requires
-line-good-requires c κs = here-small (c .before .before .before .pre) .0
+line-good-requires c κs = let h = here-small (c .before .before .before .pre) in (h .0, h .1 .0)
 
 returns : tie.Need-returns
 returns c = room-none _ _ _ (c .before .before .before .before .before .pre)

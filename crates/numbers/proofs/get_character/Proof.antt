@@ -1,0 +1,33 @@
+use mathlib.Core.Path.{_∙_}
+use borrow.Author.Needs.{needs}
+use Rattle.numbers.proofs.get_character.Statement.{statement}
+use Rattle.numbers.proofs.get_character.Tie as tie
+
+get-character-requires : tie.Need-get-character-requires
+get-character-requires c κs = search needs
+
+in-numbers-requires : tie.Need-in-numbers-requires
+in-numbers-requires c κs = search needs
+
+same-length : tie.Need-same-length
+same-length c = search needs
+
+same-length-2 : tie.Need-same-length-2
+same-length-2 c = search needs
+
+same-length-3 : tie.Need-same-length-3
+same-length-3 c = search needs
+
+returns : tie.Need-returns
+returns c = c .in-numbers .ensures .reads _ _ _ _ ∙ c .before .before .before .before .before .before .before .get-character .ensures
+
+pub get-character-spec : {M : Type 1} → statement M
+get-character-spec =
+    tie.close
+    (tie.spec
+    get-character-requires
+    in-numbers-requires
+    same-length
+    same-length-2
+    same-length-3
+    returns)

@@ -1,0 +1,37 @@
+use mathlib.Core.Path.{_∙_}
+use borrow.Author.Needs.{needs}
+use Rattle.numbers.proofs.get_string.Statement.{statement}
+use Rattle.numbers.proofs.get_string.Tie as tie
+
+get-string-requires : tie.Need-get-string-requires
+get-string-requires c κs = search needs
+
+in-numbers-requires : tie.Need-in-numbers-requires
+in-numbers-requires c κs = search needs
+
+same-length : tie.Need-same-length
+same-length c = search needs
+
+same-length-2 : tie.Need-same-length-2
+same-length-2 c = search needs
+
+same-length-3 : tie.Need-same-length-3
+same-length-3 c = search needs
+
+same-length-4 : tie.Need-same-length-4
+same-length-4 c = search needs
+
+returns : tie.Need-returns
+returns c = c .in-numbers .ensures .reads _ _ _ _ ∙ c .before .before .before .before .before .before .before .before .before .get-string .ensures
+
+pub get-string-spec : {M : Type 1} → statement M
+get-string-spec =
+    tie.close
+    (tie.spec
+    get-string-requires
+    in-numbers-requires
+    same-length
+    same-length-2
+    same-length-3
+    same-length-4
+    returns)

@@ -1,0 +1,27 @@
+use lib.Seq.{sets}
+use lib.ListN.{take, drop}
+use mathlib.Core.Path.{ap, _∙_}
+use Prim.Native.Nat.{ℕ}
+use borrow.Author.Needs.{needs}
+use Rattle.strings.proofs.store_some.Statement.{statement}
+use Rattle.strings.proofs.store_some.Tie as tie
+
+character-index-requires : tie.Need-character-index-requires
+character-index-requires c κs = search needs
+
+store-run-requires : tie.Need-store-run-requires
+store-run-requires c κs = search needs
+
+stored-requires : tie.Need-stored-requires
+stored-requires c κs = search needs
+
+same-length : tie.Need-same-length
+same-length c = search needs
+
+returns : tie.Need-returns
+returns c = (c .stored .ensures, c .before .before .before .store-run .ensures ∙ ap (λ (j : ℕ). sets (c .before .before .before .before .before .before .before .before .before .args .text .now) j (take (c .before .before .before .before .before .before .before .before .before .args .n) (drop (c .before .before .before .before .before .before .before .before .before .args .i) (c .before .before .before .before .before .before .before .before .before .args .bytes .now)))) (c .before .before .before .before .before .character-index .ensures .0))
+
+pub store-some-spec : {M : Type 1} → statement M
+store-some-spec =
+    tie.close
+    (tie.spec character-index-requires store-run-requires stored-requires same-length returns)
