@@ -11,3 +11,4 @@ pub mod Runs
 pub mod Puts
 pub mod Gets
 pub mod Numbers
+pub mod Shown
