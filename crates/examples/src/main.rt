@@ -21,6 +21,7 @@ fn is_said(line: &[u8]) -> bool {
 }
 
 // A line of the table: what is said of an example comes after the line that the example before it wrote; any other line is played.
+// No example compares two books, so the second side has none.
 fn play_entry(
     last: Played,
     line: &[u8],
@@ -38,7 +39,20 @@ fn play_entry(
         io::write_all(STDOUT_FILENO, line);
         return scenes::bad_line(scene);
     }
-    script::play_line(scene, line, bytes, output, text, lines, pages, row, out)
+    script::play_line(
+        scene,
+        line,
+        bytes,
+        output,
+        text,
+        lines,
+        pages,
+        b"",
+        b"",
+        b"",
+        row,
+        out,
+    )
 }
 
 // The table, line by line: what the last line did. Each line ends with a line feed.

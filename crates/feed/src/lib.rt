@@ -1,24 +1,28 @@
-// The lines of the input, of any size, one at a time into a lent buffer.
-use libc::STDIN_FILENO;
+// The lines of a source, of any size, one at a time into a lent buffer.
 ghost use Prim.Native.Nat.{_≤_, _+_};
 ghost use lib.ListN.{length};
 
-// How far a chunk of the input is used: from where, up to where it was filled.
+// The open file that is read, and how far a chunk of it is used: from where, up to where it was filled.
 pub struct Feed {
+    pub source: i32,
     pub from: usize,
     pub to: usize,
 }
 
-// A byte of the input, where there is one.
+// A byte of the source, where there is one.
 pub struct Next {
     pub feed: Feed,
     pub byte: u8,
     pub there: bool,
 }
 
-// A chunk that is not used yet.
-pub fn unread() -> Feed {
-    Feed { from: 0, to: 0 }
+// A source of which nothing is read yet.
+pub fn unread(source: i32) -> Feed {
+    Feed {
+        source: source,
+        from: 0,
+        to: 0,
+    }
 }
 
 // The byte at the place that the feed has come to.
@@ -39,6 +43,7 @@ pub fn byte_of(chunk: &[u8], feed: Feed) -> Next {
         };
     }
     let after = Feed {
+        source: feed.source,
         from: i + 1,
         to: feed.to,
     };
@@ -49,13 +54,18 @@ pub fn byte_of(chunk: &[u8], feed: Feed) -> Next {
     }
 }
 
-// The next byte of the input; another chunk is read where the last is used up.
+// The next byte of the source; another chunk is read where the last is used up.
 pub fn next_byte(chunk: &mut [u8], feed: Feed) -> Next {
     if feed.from < feed.to {
         return byte_of(chunk, feed);
     }
-    let n = io::read_full(STDIN_FILENO, chunk);
-    byte_of(chunk, Feed { from: 0, to: n })
+    let n = io::read_full(feed.source, chunk);
+    let filled = Feed {
+        source: feed.source,
+        from: 0,
+        to: n,
+    };
+    byte_of(chunk, filled)
 }
 
 // One byte more of a line; a line that is longer than the buffer counts one more than fits.
@@ -67,14 +77,14 @@ pub fn keep(line: &mut [u8], n: usize, b: u8) -> usize {
     line.len() + 1
 }
 
-// A line of the input: how many bytes it has; one more than the buffer's for a longer one. Past the input's end there is none.
+// A line of the source: how many bytes it has; one more than the buffer's for a longer one. Past the source's end there is none.
 pub struct Line {
     pub feed: Feed,
     pub count: usize,
     pub there: bool,
 }
 
-// The next line, without its line feed. The loop counts its turns down, from a number that no input uses up.
+// The next line, without its line feed. The loop counts its turns down, from a number that no source uses up.
 pub fn next_line(chunk: &mut [u8], feed: Feed, line: &mut [u8]) -> Line {
     let mut turns = u64::MAX;
     let mut at = feed;

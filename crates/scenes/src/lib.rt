@@ -4,21 +4,31 @@ use rules::File;
 use rules::Position;
 use rules::Rights;
 use rules::Shape;
+ghost use mathlib.Core.Bool.{not};
+ghost use mathlib.Core.Path.{_≡_};
 ghost use Prim.Native.Nat.{_≤_};
 ghost use lib.ListN.{length};
 
-// What a script keeps beside the lent memory: the record, the logical end, the lent sizes and how many answers stand in the row.
-pub struct Scene {
+// A side: a record and what is kept of its book beside the lent memory, which are the logical end and the lent sizes.
+pub struct Side {
     pub file: File,
     pub end: Position,
     pub text: usize,
     pub lines: usize,
     pub pages: usize,
-    pub row: usize,
 }
 
-// The scene that a script starts with.
-pub fn first_scene() -> Scene {
+// What a script keeps beside the lent memory: the two sides, how many answers stand in the row, and whether the first side has the
+// second set of buffers.
+pub struct Scene {
+    pub first: Side,
+    pub second: Side,
+    pub row: usize,
+    pub swapped: bool,
+}
+
+// A side at the start.
+pub fn first_side() -> Side {
     let one = Position {
         page: 1,
         line: 1,
@@ -44,13 +54,23 @@ pub fn first_scene() -> Scene {
         shape: shape,
         rights: rights,
     };
-    Scene {
+    Side {
         file: file,
         end: one,
         text: 48,
         lines: 6,
         pages: 2,
+    }
+}
+
+// The scene that a script starts with: both sides alike.
+pub fn first_scene() -> Scene {
+    let side = first_side();
+    Scene {
+        first: side,
+        second: side,
         row: 0,
+        swapped: false,
     }
 }
 
@@ -72,7 +92,7 @@ pub fn bad_line(scene: Scene) -> Played {
 
 // ---- commands
 
-// The calls that are one word: 1 to 10; dump is 19.
+// The calls that are one word: 1 to 10; dump is 31.
 pub fn short_command(name: &[u8]) -> u8 {
     if check::same(name, b"establish") {
         return 1;
@@ -104,10 +124,10 @@ pub fn short_command(name: &[u8]) -> u8 {
     if check::same(name, b"newpage") {
         return 10;
     }
-    if check::same(name, b"dump") { 19 } else { 0 }
+    if check::same(name, b"dump") { 31 } else { 0 }
 }
 
-// The calls that take arguments: 11 to 18.
+// The calls that take arguments: 11 to 19.
 pub fn long_command(name: &[u8]) -> u8 {
     if check::same(name, b"putc") {
         return 11;
@@ -130,10 +150,13 @@ pub fn long_command(name: &[u8]) -> u8 {
     if check::same(name, b"view") {
         return 17;
     }
-    if check::same(name, b"whole") { 18 } else { 0 }
+    if check::same(name, b"whole") {
+        return 18;
+    }
+    if check::same(name, b"differ") { 19 } else { 0 }
 }
 
-// The lines that set the scene: 20 to 29.
+// The lines that set the scene: 20 to 30.
 pub fn scene_command(name: &[u8]) -> u8 {
     if check::same(name, b"shape") {
         return 20;
@@ -162,7 +185,10 @@ pub fn scene_command(name: &[u8]) -> u8 {
     if check::same(name, b"pages") {
         return 28;
     }
-    if check::same(name, b"row") { 29 } else { 0 }
+    if check::same(name, b"row") {
+        return 29;
+    }
+    if check::same(name, b"swap") { 30 } else { 0 }
 }
 
 // A command's number; 0 for none.
@@ -193,7 +219,7 @@ pub fn words_of(code: u8) -> usize {
         return 4;
     }
     if code == 19 {
-        return 1;
+        return 2;
     }
     if code == 22 {
         return 2;
@@ -204,7 +230,10 @@ pub fn words_of(code: u8) -> usize {
     if code <= 24 {
         return 4;
     }
-    if code == 25 { 2 } else { 3 }
+    if code == 25 {
+        return 2;
+    }
+    if code <= 29 { 3 } else { 1 }
 }
 
 // ---- arguments
@@ -436,6 +465,9 @@ pub fn read_arguments(code: u8, line: &[u8], bytes: &mut [u8]) -> Arguments {
     if code == 18 {
         return whole_arguments(line);
     }
+    if code == 19 {
+        return one_number(console::read_decimal(console::word(line, 1), 4096));
+    }
     no_arguments(true)
 }
 
@@ -457,9 +489,9 @@ pub fn set_shape(scene: Scene, line: &[u8]) -> Played {
         return bad_line(scene);
     }
     let mut s = scene;
-    s.file.shape.pages = n.a;
-    s.file.shape.lines = n.b;
-    s.file.shape.characters = n.c;
+    s.first.file.shape.pages = n.a;
+    s.first.file.shape.lines = n.b;
+    s.first.file.shape.characters = n.c;
     scene_set(s)
 }
 
@@ -470,9 +502,9 @@ pub fn set_lent(scene: Scene, line: &[u8]) -> Played {
         return bad_line(scene);
     }
     let mut s = scene;
-    s.text = n.a;
-    s.lines = n.b;
-    s.pages = n.c;
+    s.first.text = n.a;
+    s.first.lines = n.b;
+    s.first.pages = n.c;
     scene_set(s)
 }
 
@@ -529,11 +561,11 @@ pub fn set_rights(scene: Scene, word: &[u8]) -> Played {
     let reset = 0 < r;
     let compress = 0 < c;
     let mut x = scene;
-    x.file.rights.get = get;
-    x.file.rights.put = put;
-    x.file.rights.set = set;
-    x.file.rights.reset = reset;
-    x.file.rights.compress = compress;
+    x.first.file.rights.get = get;
+    x.first.file.rights.put = put;
+    x.first.file.rights.set = set;
+    x.first.file.rights.reset = reset;
+    x.first.file.rights.compress = compress;
     if check::same(word, b"-") {
         return scene_set(x);
     }
@@ -564,12 +596,12 @@ pub fn set_record(scene: Scene, line: &[u8]) -> Played {
     let reading = flags.b == 1;
     let writing = flags.c == 1;
     let mut s = scene;
-    s.file.opened = opened;
-    s.file.reading = reading;
-    s.file.writing = writing;
-    s.file.position.page = at.a;
-    s.file.position.line = at.b;
-    s.file.position.character = at.c;
+    s.first.file.opened = opened;
+    s.first.file.reading = reading;
+    s.first.file.writing = writing;
+    s.first.file.position.page = at.a;
+    s.first.file.position.line = at.b;
+    s.first.file.position.character = at.c;
     scene_set(s)
 }
 
@@ -580,9 +612,9 @@ pub fn set_end(scene: Scene, line: &[u8]) -> Played {
         return bad_line(scene);
     }
     let mut s = scene;
-    s.end.page = n.a;
-    s.end.line = n.b;
-    s.end.character = n.c;
+    s.first.end.page = n.a;
+    s.first.end.line = n.b;
+    s.first.end.character = n.c;
     scene_set(s)
 }
 
@@ -682,6 +714,20 @@ pub fn set_row(scene: Scene, line: &[u8], row: &mut [u32]) -> Played {
     scene_set(s)
 }
 
+// The two sides exchanged. The bytes of the books stay where they are: the sides take each other's buffers.
+pub fn exchanged(scene: Scene) -> Scene
+    ensures { λ r. ⌜ (r .first ≡ scene .second) × (r .second ≡ scene .first) × (r .row ≡ scene .row) × (r .swapped ≡ not (scene .swapped)) ⌝ }
+{
+    let first = scene.first;
+    let second = scene.second;
+    Scene {
+        first: second,
+        second: first,
+        row: scene.row,
+        swapped: !scene.swapped,
+    }
+}
+
 // A line that sets the scene.
 pub fn set_scene(
     code: u8,
@@ -715,5 +761,8 @@ pub fn set_scene(
     if code == 27 {
         return set_bytes(scene, line, lines);
     }
-    set_bytes(scene, line, pages)
+    if code == 28 {
+        return set_bytes(scene, line, pages);
+    }
+    scene_set(exchanged(scene))
 }

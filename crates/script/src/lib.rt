@@ -1,10 +1,11 @@
-// A script of calls over one record and one book, line by line: the calls, and what a line does.
+// A script of calls over two sides, each a record and a book, line by line: the calls, and what a line does.
 use rules::File;
 use rules::Position;
 use rules::Reply;
 use scenes::Arguments;
 use scenes::Played;
 use scenes::Scene;
+ghost use mathlib.Core.Path.{_≡_};
 ghost use Prim.Native.Nat.{_≤_};
 
 // ---- calls
@@ -147,16 +148,17 @@ pub fn make_call(
 
 // ---- playing a call
 
-// A scene after a call: its record and logical end, and no answers left.
-pub fn scene_after(scene: Scene, file: File, end: Position) -> Scene {
-    Scene {
-        file: file,
-        end: end,
-        text: scene.text,
-        lines: scene.lines,
-        pages: scene.pages,
-        row: 0,
-    }
+// A scene after a call: the record and the logical end of the first side, and no answers left. The second side stays.
+pub fn scene_after(scene: Scene, file: File, end: Position) -> Scene
+    ensures { λ r. ⌜ (r .first .file ≡ file) × (r .first .end ≡ end) × (r .second ≡ scene .second) × (r .swapped ≡ scene .swapped) ⌝ }
+{
+    let mut first = scene.first;
+    first.file = file;
+    first.end = end;
+    let mut s = scene;
+    s.first = first;
+    s.row = 0;
+    s
 }
 
 // A view: its number, and the part that it hands back. Its count is 0 where the marker was handed back.
@@ -169,8 +171,8 @@ pub fn play_view<'a>(
     pages: &[u8],
     out: &mut [u8],
 ) -> Played {
-    let file = scene.file;
-    let end = scene.end;
+    let file = scene.first.file;
+    let end = scene.first.end;
     let asked = views::view_number(file, end, given.a, given.b, text, lines, pages);
     let part = views::line_view(file, end, given.a, given.b, text, lines, pages, marker);
     let line = views::line_view(file, end, given.a, given.b, text, lines, pages, &text[0..0]);
@@ -193,8 +195,8 @@ pub fn play_view<'a>(
 
 // whole(v, w) into a lent output.
 pub fn play_whole(scene: Scene, given: Arguments, output: &mut [u8], out: &mut [u8]) -> Played {
-    let file = scene.file;
-    let end = scene.end;
+    let file = scene.first.file;
+    let end = scene.first.end;
     let wrote = whole::whole(given.v, given.w, output);
     let count = shows::push_quiet(out, b"whole", file, end, wrote.number, wrote.count, output);
     Played {
@@ -231,8 +233,8 @@ pub fn play_reply(
     row: &[u32],
     out: &mut [u8],
 ) -> Played {
-    let file = scene.file;
-    let end = scene.end;
+    let file = scene.first.file;
+    let end = scene.first.end;
     let reply = make_call(
         code,
         file,
@@ -303,12 +305,19 @@ pub fn lent_bytes(code: u8, given: Arguments) -> usize {
     if code == 17 { given.c } else { 0 }
 }
 
-// How large an output a call lends.
+// How large an output a call lends: a list has four bytes an entry.
 pub fn lent_output(code: u8, given: Arguments) -> usize {
     if code == 15 {
         return given.a;
     }
-    if code == 18 { given.a } else { 0 }
+    if code == 18 {
+        return given.a;
+    }
+    if code == 19 {
+        4 * console::least(given.a, 4096)
+    } else {
+        0
+    }
 }
 
 // A call with the memory that the scene lends.
@@ -327,9 +336,9 @@ pub fn play_call(
 ) -> Played {
     let b = console::least(lent_bytes(code, given), bytes.len());
     let o = console::least(lent_output(code, given), output.len());
-    let t = console::least(scene.text, text.len());
-    let l = console::least(scene.lines, lines.len());
-    let p = console::least(scene.pages, pages.len());
+    let t = console::least(scene.first.text, text.len());
+    let l = console::least(scene.first.lines, lines.len());
+    let p = console::least(scene.first.pages, pages.len());
     let r = console::least(scene.row, row.len());
     play_lent(
         code,
@@ -346,13 +355,86 @@ pub fn play_call(
     )
 }
 
+// ---- comparing the sides
+
+// The first side compared with the second, over the lent parts of both.
+pub fn compare_lent(
+    scene: Scene,
+    list: &mut [u8],
+    text: &[u8],
+    lines: &[u8],
+    pages: &[u8],
+    other_text: &[u8],
+    other_lines: &[u8],
+    other_pages: &[u8],
+    out: &mut [u8],
+) -> Played {
+    mark(list);
+    let file = scene.first.file;
+    let end = scene.first.end;
+    let other_file = scene.second.file;
+    let other_end = scene.second.end;
+    let found = differs::differ(
+        file,
+        other_file,
+        end,
+        text,
+        lines,
+        pages,
+        other_end,
+        other_text,
+        other_lines,
+        other_pages,
+        list,
+    );
+    let count = shows::push_quiet(out, b"differ", file, end, found.number, found.count, list);
+    Played {
+        scene: scene_after(scene, file, end),
+        good: true,
+        count: count,
+    }
+}
+
+// The comparison with the memory that the scene lends: each side its own sizes.
+pub fn play_differ(
+    scene: Scene,
+    given: Arguments,
+    output: &mut [u8],
+    text: &[u8],
+    lines: &[u8],
+    pages: &[u8],
+    other_text: &[u8],
+    other_lines: &[u8],
+    other_pages: &[u8],
+    out: &mut [u8],
+) -> Played {
+    let o = console::least(lent_output(19, given), output.len());
+    let t = console::least(scene.first.text, text.len());
+    let l = console::least(scene.first.lines, lines.len());
+    let p = console::least(scene.first.pages, pages.len());
+    let other_t = console::least(scene.second.text, other_text.len());
+    let other_l = console::least(scene.second.lines, other_lines.len());
+    let other_p = console::least(scene.second.pages, other_pages.len());
+    compare_lent(
+        scene,
+        &mut output[0..o],
+        &text[0..t],
+        &lines[0..l],
+        &pages[0..p],
+        &other_text[0..other_t],
+        &other_lines[0..other_l],
+        &other_pages[0..other_p],
+        out,
+    )
+}
+
 // ---- looking at the book
 
 // Three lines: the line lengths, the page lengths and the text that are lent.
 pub fn play_dump(scene: Scene, text: &[u8], lines: &[u8], pages: &[u8], out: &mut [u8]) -> Played {
-    let t = console::least(scene.text, text.len());
-    let l = console::least(scene.lines, lines.len());
-    let p = console::least(scene.pages, pages.len());
+    let t = console::least(scene.first.text, text.len());
+    let l = console::least(scene.first.lines, lines.len());
+    let p = console::least(scene.first.pages, pages.len());
     let first = console::push_all(out, 0, b"lines ");
     let second = console::push_hex(out, first, &lines[0..l]);
     let third = console::push_all(out, second, b"\npages ");
@@ -368,8 +450,9 @@ pub fn play_dump(scene: Scene, text: &[u8], lines: &[u8], pages: &[u8], out: &mu
 
 // ---- a line
 
-// Plays a line that is neither empty nor a comment.
-pub fn play_line(
+// Plays a call with the arguments of its line. Only differ looks at the second side.
+pub fn play_asked(
+    code: u8,
     scene: Scene,
     line: &[u8],
     bytes: &mut [u8],
@@ -377,29 +460,30 @@ pub fn play_line(
     text: &mut [u8],
     lines: &mut [u8],
     pages: &mut [u8],
-    row: &mut [u32],
+    other_text: &[u8],
+    other_lines: &[u8],
+    other_pages: &[u8],
+    row: &[u32],
     out: &mut [u8],
 ) -> Played {
     let name = console::word(line, 0);
-    let code = scenes::command(name);
-    if code == 29 {
-        return scenes::set_row(scene, line, row);
-    }
-    if code == 0 {
-        return scenes::bad_line(scene);
-    }
-    if console::word_count(line) != scenes::words_of(code) {
-        return scenes::bad_line(scene);
-    }
-    if 19 < code {
-        return scenes::set_scene(code, scene, line, text, lines, pages);
-    }
-    if code == 19 {
-        return play_dump(scene, text, lines, pages, out);
-    }
     let given = scenes::read_arguments(code, line, bytes);
     if !given.good {
         return scenes::bad_line(scene);
+    }
+    if code == 19 {
+        return play_differ(
+            scene,
+            given,
+            output,
+            text,
+            lines,
+            pages,
+            other_text,
+            other_lines,
+            other_pages,
+            out,
+        );
     }
     play_call(
         code,
@@ -411,6 +495,134 @@ pub fn play_line(
         text,
         lines,
         pages,
+        row,
+        out,
+    )
+}
+
+// Plays a line whose command is known and whose words are as many as the command has.
+pub fn play_known(
+    code: u8,
+    scene: Scene,
+    line: &[u8],
+    bytes: &mut [u8],
+    output: &mut [u8],
+    text: &mut [u8],
+    lines: &mut [u8],
+    pages: &mut [u8],
+    other_text: &[u8],
+    other_lines: &[u8],
+    other_pages: &[u8],
+    row: &[u32],
+    out: &mut [u8],
+) -> Played {
+    if code == 31 {
+        return play_dump(scene, text, lines, pages, out);
+    }
+    if 19 < code {
+        return scenes::set_scene(code, scene, line, text, lines, pages);
+    }
+    play_asked(
+        code,
+        scene,
+        line,
+        bytes,
+        output,
+        text,
+        lines,
+        pages,
+        other_text,
+        other_lines,
+        other_pages,
+        row,
+        out,
+    )
+}
+
+// Plays a line that is neither empty nor a comment, over the books of the first side and of the second.
+pub fn play_line(
+    scene: Scene,
+    line: &[u8],
+    bytes: &mut [u8],
+    output: &mut [u8],
+    text: &mut [u8],
+    lines: &mut [u8],
+    pages: &mut [u8],
+    other_text: &[u8],
+    other_lines: &[u8],
+    other_pages: &[u8],
+    row: &mut [u32],
+    out: &mut [u8],
+) -> Played {
+    let code = scenes::command(console::word(line, 0));
+    if code == 29 {
+        return scenes::set_row(scene, line, row);
+    }
+    if code == 0 {
+        return scenes::bad_line(scene);
+    }
+    if console::word_count(line) != scenes::words_of(code) {
+        return scenes::bad_line(scene);
+    }
+    play_known(
+        code,
+        scene,
+        line,
+        bytes,
+        output,
+        text,
+        lines,
+        pages,
+        other_text,
+        other_lines,
+        other_pages,
+        row,
+        out,
+    )
+}
+
+// Plays such a line over two sets of buffers: the scene says which of them is the first side's.
+pub fn play_sides(
+    scene: Scene,
+    line: &[u8],
+    bytes: &mut [u8],
+    output: &mut [u8],
+    text: &mut [u8],
+    lines: &mut [u8],
+    pages: &mut [u8],
+    other_text: &mut [u8],
+    other_lines: &mut [u8],
+    other_pages: &mut [u8],
+    row: &mut [u32],
+    out: &mut [u8],
+) -> Played {
+    if scene.swapped {
+        return play_line(
+            scene,
+            line,
+            bytes,
+            output,
+            other_text,
+            other_lines,
+            other_pages,
+            text,
+            lines,
+            pages,
+            row,
+            out,
+        );
+    }
+    play_line(
+        scene,
+        line,
+        bytes,
+        output,
+        text,
+        lines,
+        pages,
+        other_text,
+        other_lines,
+        other_pages,
         row,
         out,
     )

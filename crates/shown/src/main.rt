@@ -1,5 +1,6 @@
 // Puts lines into a book of 2 pages of 3 lines of 8 characters, and shows what stands in it. `S text` puts a text, `N` is newline,
 // `G` newpage.
+use libc::STDIN_FILENO;
 use libc::STDOUT_FILENO;
 use rules::File;
 use rules::Position;
@@ -110,7 +111,7 @@ fn play_all(
 ) -> Reply {
     let mut turns = u64::MAX;
     let mut last = first;
-    let mut at = feed::unread();
+    let mut at = feed::unread(STDIN_FILENO);
     while 0 < turns {
         let read = feed::next_line(chunk, at, line);
         at = read.feed;
@@ -135,9 +136,9 @@ fn main() {
     let mut lines = [0u8; 6];
     let mut pages = [0u8; 2];
     let row = [0u32; 0];
-    let scene = scenes::first_scene();
-    let file = scene.file;
-    let end = scene.end;
+    let side = scenes::first_side();
+    let file = side.file;
+    let end = side.end;
     let first = plain::establish(file, end, &text, &mut lines, &mut pages);
     let last = play_all(
         first,

@@ -9,7 +9,6 @@ mod episodes;
 use std::collections::BTreeMap;
 
 use episodes::{Episode, Stage};
-use second::book::Book as SecondBook;
 use second::calls::CallResult as SecondResult;
 use second::replay::{call_name, Call, Line, Player};
 use transput::{Book, File, Given, Outcome, Position, Refusal, Stop, View};
@@ -123,22 +122,13 @@ impl Pair {
 
     /// Makes the call by the second implementation.
     fn make_second(&mut self, call: &Call, row: &[u32]) -> SecondResult {
-        let second = &mut self.second;
-        let (text, lines, pages) = second.lent;
-        let mut book = SecondBook {
-            text: &mut second.text[..text],
-            line_lengths: &mut second.line_lengths[..lines],
-            page_lengths: &mut second.page_lengths[..pages],
-            logical_end: second.logical_end,
-        };
-        let result = second::replay::make_call(call, &mut second.file, &mut book, row);
-        second.logical_end = book.logical_end;
-        result
+        let side = &mut self.second.first;
+        side.lend(|file, book| second::replay::make_call(call, file, book, row))
     }
 
     /// The record of the second implementation in the wrapper's form.
     fn second_file(&self) -> File {
-        let file = &self.second.file;
+        let file = &self.second.first.file;
         File {
             opened: file.opened,
             reading: file.read_mood,
@@ -151,12 +141,13 @@ impl Pair {
 
     /// The book of the second implementation in the wrapper's form.
     fn second_book(&self) -> Book {
-        let (text, lines, pages) = self.second.lent;
+        let side = &self.second.first;
+        let (text, lines, pages) = side.lent;
         Book {
-            text: self.second.text[..text].to_vec(),
-            lines: self.second.line_lengths[..lines].to_vec(),
-            pages: self.second.page_lengths[..pages].to_vec(),
-            end: self.stage.position(self.second.logical_end),
+            text: side.text[..text].to_vec(),
+            lines: side.line_lengths[..lines].to_vec(),
+            pages: side.page_lengths[..pages].to_vec(),
+            end: self.stage.position(side.logical_end),
         }
     }
 

@@ -2,12 +2,13 @@
 //! 1, 3, 2, 9, 4, 5, 6, 12.
 
 use crate::book::{establish_fits, open_fits, record_and_book_fit, Book, File, Position};
+use crate::spans::{differing_spans, Looked, Span};
 use crate::steps;
 use crate::steps::{needed_mood, read_answer, set_mood, Mood, Refusal, Work};
 
 /// "A call's result is all it hands back: number, events signalled, answers taken, stop, count,
 /// the character or integer if one is given, a view's characters." `bytes` holds the whole lent
-/// output of get_string and whole, and the part that view hands back.
+/// output of get_string, whole and differ, and the part that view hands back.
 #[derive(Clone, PartialEq, Eq, Debug, Default)]
 pub struct CallResult {
     pub number: u32,
@@ -362,6 +363,41 @@ pub fn whole(value: i32, width: i32, output: &mut [u8]) -> CallResult {
     CallResult {
         count: text.len(),
         bytes: output.to_vec(),
+        ..only_number(done)
+    }
+}
+
+/// The tests of differ in their order: 1 for either record, 3 for either record or book, 12
+/// "when the lent list is too short"; then the spans.
+fn tested_spans(one: Looked, other: Looked, room: usize) -> Result<Vec<Span>, Refusal> {
+    let both = [one, other];
+    if !both.iter().all(|looked| looked.file.opened) {
+        return Err(Refusal::NotOpen);
+    }
+    for looked in both {
+        test_record(looked.file, looked.book)?;
+    }
+    let spans = differing_spans(one, other);
+    if spans.len() > room {
+        return Err(Refusal::OutputTooShort);
+    }
+    Ok(spans)
+}
+
+/// Where two books differ (C-11), listed in a lent list. "The call needs no right and no mood,
+/// takes no answer row, and changes nothing but the list." "A refused call gives the count 0
+/// and writes nothing. Entries past the count stay as they were."
+pub fn differ(one: Looked, other: Looked, list: &mut [Span]) -> CallResult {
+    let (done, spans) = match tested_spans(one, other, list.len()) {
+        Ok(spans) => (Ok(()), spans),
+        Err(refusal) => (Err(refusal), Vec::new()),
+    };
+    for (entry, span) in list.iter_mut().zip(&spans) {
+        *entry = *span;
+    }
+    CallResult {
+        count: spans.len(),
+        bytes: list.iter().flat_map(|entry| entry.bytes()).collect(),
         ..only_number(done)
     }
 }

@@ -1,4 +1,5 @@
-//! Checks of this implementation by itself: what document 01 promises of every call.
+//! Checks of this implementation by itself: what document 01 promises of every call. What C-11
+//! promises is checked in `span_checks`.
 
 use crate::book::{line_length, record_and_book_fit, shape_is_good, text_index};
 use crate::book::{Book, File, Position, Rights, Shape};
@@ -8,10 +9,11 @@ use crate::replay::{make_call, Call};
 use crate::say;
 use crate::scenes::Scene;
 use crate::scenes::{good_scene, hints_of, random_call, random_integer, random_row, random_scene};
+use crate::span_checks::{check_pair, SpanProperties};
 
 /// A book that owns what it lends.
 #[derive(Clone, PartialEq, Eq, Debug)]
-struct OwnBook {
+pub struct OwnBook {
     text: Vec<u8>,
     line_lengths: Vec<u8>,
     page_lengths: Vec<u8>,
@@ -20,13 +22,13 @@ struct OwnBook {
 
 /// A record and its book.
 #[derive(Clone, PartialEq, Eq, Debug)]
-struct Side {
-    file: File,
-    book: OwnBook,
+pub struct Owner {
+    pub file: File,
+    pub book: OwnBook,
 }
 
 /// How often something was checked, and how often it failed.
-struct Property {
+pub struct Property {
     name: &'static str,
     checks: u64,
     failed: u64,
@@ -43,7 +45,7 @@ struct Properties {
 }
 
 impl Property {
-    fn new(name: &'static str) -> Property {
+    pub fn new(name: &'static str) -> Property {
         Property {
             name,
             checks: 0,
@@ -52,7 +54,7 @@ impl Property {
     }
 
     /// Counts a check; says what failed the first few times.
-    fn check(&mut self, holds: bool, about: impl FnOnce() -> String) {
+    pub fn check(&mut self, holds: bool, about: impl FnOnce() -> String) {
         self.checks += 1;
         if !holds {
             self.failed += 1;
@@ -131,7 +133,7 @@ impl OwnBook {
     }
 
     /// Alike: the same sizes, lengths and end, and the same characters where they are seen.
-    fn alike(&self, other: &OwnBook) -> bool {
+    pub fn alike(&self, other: &OwnBook) -> bool {
         let same_frame = self.line_lengths == other.line_lengths
             && self.page_lengths == other.page_lengths
             && self.logical_end == other.logical_end
@@ -146,7 +148,7 @@ impl OwnBook {
     }
 
     /// A book alike, with other characters where they are not seen.
-    fn twin(&self, random: &mut Random) -> OwnBook {
+    pub fn twin(&self, random: &mut Random) -> OwnBook {
         let mut twin = self.clone();
         for (byte, seen) in twin.text.iter_mut().zip(self.seen()) {
             if !seen {
@@ -157,13 +159,34 @@ impl OwnBook {
     }
 }
 
-impl Side {
-    fn fits(&mut self) -> bool {
-        let file = self.file;
-        self.book.lend(|book| record_and_book_fit(&file, book))
+impl Owner {
+    /// The record and the book of a scene.
+    pub fn of_scene(scene: &Scene) -> Owner {
+        Owner {
+            file: scene.file,
+            book: OwnBook::of_scene(scene),
+        }
     }
 
-    fn make(&mut self, call: &Call, row: &[u32]) -> CallResult {
+    /// The same record with a book alike.
+    pub fn twin(&self, random: &mut Random) -> Owner {
+        Owner {
+            file: self.file,
+            book: self.book.twin(random),
+        }
+    }
+
+    /// Lends the record and the book for one question.
+    pub fn asked<T>(&mut self, question: impl FnOnce(&File, &Book) -> T) -> T {
+        let file = &self.file;
+        self.book.lend(|book| question(file, book))
+    }
+
+    pub fn fits(&mut self) -> bool {
+        self.asked(record_and_book_fit)
+    }
+
+    pub fn make(&mut self, call: &Call, row: &[u32]) -> CallResult {
         let file = &mut self.file;
         self.book.lend(|book| make_call(call, file, book, row))
     }
@@ -192,7 +215,7 @@ fn none_grew(before: &OwnBook, after: &OwnBook) -> bool {
 }
 
 /// One call on both sides of a pair, and all that is checked of it.
-fn check_call(properties: &mut Properties, pair: &mut [Side; 2], call: &Call, row: &[u32]) {
+fn check_call(properties: &mut Properties, pair: &mut [Owner; 2], call: &Call, row: &[u32]) {
     let [one, other] = pair;
     let mut before = one.clone();
     let result = one.make(call, row);
@@ -223,16 +246,13 @@ fn check_call(properties: &mut Properties, pair: &mut [Side; 2], call: &Call, ro
 /// One episode: a scene, a twin of its book, and a list of calls.
 fn check_episode(random: &mut Random, properties: &mut Properties) {
     let scene = random_scene(random);
-    let book = OwnBook::of_scene(&scene);
-    let twin = book.twin(random);
-    let file = scene.file;
-    let mut pair = [book, twin].map(|book| Side { file, book });
-    let [one, other] = &pair;
-    let alike = one.book.alike(&other.book);
+    let owner = Owner::of_scene(&scene);
+    let twin = owner.twin(random);
+    let alike = owner.book.alike(&twin.book);
+    let mut pair = [owner, twin];
     properties.alike.check(alike, || "at the start".to_string());
     for _ in 0..random.between(0, 25) {
-        let Side { file, book } = &mut pair[0];
-        let hints = book.lend(|book| hints_of(file, book, scene.style));
+        let hints = pair[0].asked(|file, book| hints_of(file, book, scene.style));
         let row = if random.chance(45) {
             random_row(random, &hints)
         } else {
@@ -244,7 +264,7 @@ fn check_episode(random: &mut Random, properties: &mut Properties) {
 }
 
 /// A fresh book with a few lines put, standing at the start of a line.
-fn fresh_side(random: &mut Random) -> Side {
+fn fresh_owner(random: &mut Random) -> Owner {
     let shape = Shape {
         pages: random.between(1, 3),
         lines: random.between(2, 4),
@@ -272,41 +292,41 @@ fn fresh_side(random: &mut Random) -> Side {
         page_lengths: vec![0; shape.pages as usize],
         logical_end: Position::START,
     };
-    let mut side = Side { file, book };
-    side.make(&Call::Establish, &[]);
+    let mut owner = Owner { file, book };
+    owner.make(&Call::Establish, &[]);
     for _ in 0..random.below(lines) {
         let length = random.below(20);
-        side.make(&Call::PutString(vec![b'9'; length]), &[]);
-        side.make(&Call::Newline, &[]);
+        owner.make(&Call::PutString(vec![b'9'; length]), &[]);
+        owner.make(&Call::Newline, &[]);
     }
-    side
+    owner
 }
 
 /// An old book with all rights, set to the start of some line before its end.
-fn old_side(random: &mut Random) -> Side {
+fn old_owner(random: &mut Random) -> Owner {
     let scene = good_scene(random);
     let mut file = scene.file;
     file.rights.get = true;
     file.rights.put = true;
     file.rights.set = true;
     let book = OwnBook::of_scene(&scene);
-    let mut side = Side { file, book };
-    side.make(&Call::Open, &[]);
+    let mut owner = Owner { file, book };
+    owner.make(&Call::Open, &[]);
     let page = random.between(1, scene.logical_end.page);
     let line = random.between(1, scene.file.shape.lines);
-    side.make(&Call::Set(Position::new(page, line, 1)), &[]);
-    side
+    owner.make(&Call::Set(Position::new(page, line, 1)), &[]);
+    owner
 }
 
 /// Whether a further digit stands where the eleven characters end; then it belongs to what is
 /// read (002, commentary 19 e).
-fn digit_follows(side: &mut Side, start: Position) -> bool {
+fn digit_follows(owner: &mut Owner, start: Position) -> bool {
     let after = Position {
         character: start.character + 11,
         ..start
     };
-    let shape = side.file.shape;
-    side.book.lend(|book| {
+    let shape = owner.file.shape;
+    owner.book.lend(|book| {
         let inside = after.character <= line_length(shape, book, after.page, after.line);
         let byte = text_index(shape, after).and_then(|index| book.text.get(index));
         let digit = byte.is_some_and(u8::is_ascii_digit);
@@ -315,76 +335,88 @@ fn digit_follows(side: &mut Side, start: Position) -> bool {
 }
 
 /// Back to the start of a line: with set, or by reset and a walk over pages and lines.
-fn go_back(side: &mut Side, start: Position) {
-    if side.file.rights.set {
-        side.make(&Call::Set(start), &[]);
+fn go_back(owner: &mut Owner, start: Position) {
+    if owner.file.rights.set {
+        owner.make(&Call::Set(start), &[]);
         return;
     }
-    side.make(&Call::Reset, &[]);
-    side.make(&Call::GetString(0, Vec::new()), &[]);
+    owner.make(&Call::Reset, &[]);
+    owner.make(&Call::GetString(0, Vec::new()), &[]);
     for _ in 1..start.page {
-        side.make(&Call::Newpage, &[]);
+        owner.make(&Call::Newpage, &[]);
     }
     for _ in 1..start.line {
-        side.make(&Call::Newline, &[]);
+        owner.make(&Call::Newline, &[]);
     }
 }
 
 /// Put of an integer at the start of a line of length at least 11, and get at that place.
 fn check_integer(random: &mut Random, property: &mut Property) {
-    let mut side = if random.chance(50) {
-        fresh_side(random)
+    let mut owner = if random.chance(50) {
+        fresh_owner(random)
     } else {
-        old_side(random)
+        old_owner(random)
     };
-    let start = side.file.position;
-    let shape = side.file.shape;
-    let length = side
+    let start = owner.file.position;
+    let shape = owner.file.shape;
+    let length = owner
         .book
         .lend(|book| line_length(shape, book, start.page, start.line));
     let value = random_integer(random);
     if start.character != 1 || length < 11 || value == i32::MIN {
         return;
     }
-    let put = side.make(&Call::PutInteger(value), &[]);
-    let after_put = side.file.position;
-    if digit_follows(&mut side, start) {
+    let put = owner.make(&Call::PutInteger(value), &[]);
+    let after_put = owner.file.position;
+    if digit_follows(&mut owner, start) {
         return;
     }
-    go_back(&mut side, start);
-    let got = side.make(&Call::GetInteger, &[]);
+    go_back(&mut owner, start);
+    let got = owner.make(&Call::GetInteger, &[]);
     let done = put.number == 0 && got.number == 0;
-    let back = done && got.value == Some(value) && side.file.position == after_put;
+    let back = done && got.value == Some(value) && owner.file.position == after_put;
     property.check(back, || format!("{value} gave {got:?} at {start:?}"));
+}
+
+impl Properties {
+    fn new() -> Properties {
+        Properties {
+            valid: Property::new("a good record and book stay good"),
+            unchanged: Property::new("a call refused before work changes nothing"),
+            alike: Property::new("demand 3: books alike give the same and stay alike"),
+            events: Property::new("events are at most answers taken + P(L+1) + 1"),
+            lengths: Property::new("lengths never grow but at establish"),
+            integers: Property::new("an integer put is got back"),
+        }
+    }
+
+    /// The properties in the order in which they are told.
+    fn all(self) -> [Property; 6] {
+        [
+            self.valid,
+            self.unchanged,
+            self.alike,
+            self.events,
+            self.lengths,
+            self.integers,
+        ]
+    }
 }
 
 /// Runs all checks and says how they went: how many, and how many failed.
 pub fn check(seed: u64, episodes: u64) -> (u64, u64) {
-    let mut properties = Properties {
-        valid: Property::new("a good record and book stay good"),
-        unchanged: Property::new("a call refused before work changes nothing"),
-        alike: Property::new("demand 3: books alike give the same and stay alike"),
-        events: Property::new("events are at most answers taken + P(L+1) + 1"),
-        lengths: Property::new("lengths never grow but at establish"),
-        integers: Property::new("an integer put is got back"),
-    };
+    let mut properties = Properties::new();
+    let mut of_spans = SpanProperties::new();
     for episode in 0..episodes {
         let mut random = Random::for_episode(seed, episode);
         check_episode(&mut random, &mut properties);
         for _ in 0..3 {
             check_integer(&mut random, &mut properties.integers);
+            check_pair(&mut random, &mut of_spans);
         }
     }
-    let all = [
-        properties.valid,
-        properties.unchanged,
-        properties.alike,
-        properties.events,
-        properties.lengths,
-        properties.integers,
-    ];
     let mut total = (0, 0);
-    for property in all {
+    for property in properties.all().into_iter().chain(of_spans.all()) {
         let Property {
             name,
             checks,

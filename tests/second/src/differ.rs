@@ -7,7 +7,7 @@ use std::sync::mpsc;
 use std::thread;
 use std::time::{Duration, Instant};
 
-use crate::episodes::{make_episode, Script};
+use crate::episodes::{make_episode, Books, Script};
 use crate::random::Random;
 use crate::replay::{replay, Player};
 use crate::say;
@@ -17,6 +17,7 @@ use crate::shrink::shrink;
 pub struct Options {
     pub ours: String,
     pub seed: u64,
+    pub books: Books,
     pub episodes: u64,
     pub seconds: Option<u64>,
 }
@@ -125,7 +126,7 @@ fn differs(path: &str, lines: &Script) -> std::io::Result<bool> {
 }
 
 /// Makes a batch of episodes, from one number to another, on one player.
-fn make_batch(seed: u64, from: u64, to: u64) -> Batch {
+fn make_batch(seed: u64, books: Books, from: u64, to: u64) -> Batch {
     let mut player = Player::new();
     let mut batch = Batch {
         episodes: Vec::new(),
@@ -134,7 +135,7 @@ fn make_batch(seed: u64, from: u64, to: u64) -> Batch {
     };
     for number in from..to {
         let random = Random::for_episode(seed, number);
-        let episode = make_episode(random, &mut player, &mut batch.output);
+        let episode = make_episode(random, books, &mut player, &mut batch.output);
         batch.episodes.push(episode);
         batch.ends.push(batch.output.len());
     }
@@ -142,8 +143,8 @@ fn make_batch(seed: u64, from: u64, to: u64) -> Batch {
 }
 
 /// Random episodes as one script, for a program that is not started from here.
-pub fn scripts(seed: u64, episodes: u64) -> Vec<u8> {
-    let batch = make_batch(seed, 0, episodes);
+pub fn scripts(options: &Options) -> Vec<u8> {
+    let batch = make_batch(options.seed, options.books, 0, options.episodes);
     batch.episodes.iter().flat_map(script_bytes).collect()
 }
 
@@ -235,7 +236,7 @@ fn report(path: &str, script: Script, title: &str) -> std::io::Result<()> {
 /// Plays one batch on the other program. Gives how many episodes were played up to and with
 /// the first that differs, and whether one did.
 fn play_batch(options: &Options, from: u64, to: u64) -> std::io::Result<(u64, bool)> {
-    let batch = make_batch(options.seed, from, to);
+    let batch = make_batch(options.seed, options.books, from, to);
     let lines = batch.episodes.concat();
     let script = script_bytes(&lines);
     let reply = run_other(&options.ours, script, batch.output.len(), BATCH_PATIENCE)?;
@@ -278,7 +279,7 @@ mod tests {
 
     #[test]
     fn episodes_are_independent() {
-        let batch = make_batch(42, 0, 300);
+        let batch = make_batch(42, Books::Two, 0, 300);
         let mut start = 0;
         for (episode, &end) in batch.episodes.iter().zip(&batch.ends) {
             let alone = replay(&script_bytes(episode));
@@ -290,7 +291,7 @@ mod tests {
 
     #[test]
     fn the_first_difference_is_found() {
-        let batch = make_batch(42, 0, 20);
+        let batch = make_batch(42, Books::Two, 0, 20);
         let same = Reply {
             output: batch.output.clone(),
             remark: String::new(),
@@ -300,5 +301,48 @@ mod tests {
         other.output[batch.ends[7]] ^= 1;
         let found = first_difference(&batch, &other);
         assert!(found.is_some_and(|index| batch.ends[index] > batch.ends[7]));
+    }
+
+    /// The words of the lines that a look at two books wrote.
+    fn looks(output: &[u8]) -> Vec<Vec<String>> {
+        let text = String::from_utf8_lossy(output);
+        let lines = text.lines().filter(|line| line.starts_with("differ "));
+        let words = lines.map(|line| line.split(' ').map(str::to_string).collect());
+        words.collect()
+    }
+
+    #[test]
+    fn one_book_needs_no_second_side() {
+        let batch = make_batch(42, Books::One, 0, 300);
+        assert!(looks(&batch.output).is_empty());
+        let mut lines = batch.episodes.iter().flatten();
+        assert!(!lines.any(|line| line == b"swap"));
+    }
+
+    #[test]
+    fn two_books_are_looked_at_in_all_ways() {
+        let batch = make_batch(42, Books::Two, 0, 600);
+        let looks = looks(&batch.output);
+        let some = |holds: &dyn Fn(&[String]) -> bool| looks.iter().any(|look| holds(look));
+        for number in ["0", "1", "3", "12"] {
+            assert!(some(&|look| look[1] == number), "number {number}");
+        }
+        assert!(some(&|look| look[1] == "0" && look[5] == "0"), "alike");
+        assert!(some(&|look| look[1] == "12" && look[7] == "-"), "no entry");
+        assert!(some(&|look| look[7].ends_with("eeeeeeee")), "too long");
+        let just_long_enough = |look: &[String]| look[5] == "3" && look[7].len() == 3 * 8;
+        assert!(some(&just_long_enough), "just long enough");
+        let empty_line = |look: &[String]| look[5] == "1" && look[7].contains("0100");
+        assert!(some(&empty_line), "an empty line");
+    }
+
+    #[test]
+    fn a_row_stays_over_a_swap_and_serves_a_look() {
+        let lines = make_batch(42, Books::Two, 0, 600).episodes.concat();
+        let follows = |name: &[u8]| {
+            let mut pairs = lines.windows(2);
+            pairs.any(|pair| pair[0].starts_with(b"row 2") && pair[1].starts_with(name))
+        };
+        assert!(follows(b"swap") && follows(b"differ "));
     }
 }

@@ -1,14 +1,24 @@
-//! Random episodes as scripts of the format that README gives: a scene that sets everything, then calls with their
-//! rows, changes of the scene, bad lines and dumps.
+//! Random episodes as scripts of the format that README gives: a scene that sets everything, or two of them, then calls
+//! with their rows, changes of the scene, bad lines and dumps.
 
 use crate::book::{record_and_book_fit, Book, File, Position, Rights};
+use crate::pairs::other_scene;
 use crate::random::Random;
 use crate::replay::{call_name, write_hex, write_position, Call, Player};
 use crate::scenes::{good_scene, Hints, Scene, Style, LARGE};
 use crate::scenes::{hints_of, random_call, random_row, random_scene, random_target, random_text};
+use crate::spans::{differing_spans, Looked};
 
 /// A script, line by line, without the line feeds.
 pub type Script = Vec<Vec<u8>>;
+
+/// The books of the episodes: one only, for a program without C-11, or two in about half of
+/// them.
+#[derive(Clone, Copy, PartialEq, Eq, Debug)]
+pub enum Books {
+    One,
+    Two,
+}
 
 /// Lines that the script format calls bad, and some that do nothing, with bars between them.
 const ODD_LINES: &str = "\
@@ -24,7 +34,9 @@ const ODD_LINES: &str = "\
     record 1 0 0 1 1|record 1 0 0 1 1 65536|rights|rights gg|rights gpx|rights G|\
     rights g-|rights g p|lend 70001 6 2|lend 48 1101 2|lend 48 6 301|lend 48 6|\
     shape 1 1|shape 65536 1 1|shape -1 1 1|end 1 1|end 1 1 65536|fill 6|fill 616|fill -|\
-    text 65536 61|text 0|lines 1100 00|pages 300 00|dump 1||#|# puts 61";
+    text 65536 61|text 0|lines 1100 00|pages 300 00|dump 1||#|# puts 61|Swap|swap 1|swap |\
+    swap\r|differ|differ -|differ -1|differ +1|differ 4097|differ 1 1|differ 1 |differ  1|\
+    differ 1.0|differ ee|differs 1|# swap|# differ 1";
 
 /// The rights as a word of a script, beginning with any of its letters.
 pub fn write_rights(rights: Rights, turn: usize) -> String {
@@ -78,42 +90,52 @@ fn write_row(row: &[u32]) -> String {
     format!("row{}", words.concat())
 }
 
+/// What is known of a side: how its characters look, and how many lengths its scene set.
+#[derive(Clone, Copy)]
+struct Known {
+    style: Style,
+    covered: (usize, usize),
+}
+
 /// An episode being made: every line is played as it is added, so that the next can be chosen
-/// by where the record stands.
+/// by where the record stands. The second side is used only where it was set.
 struct Maker<'m> {
     random: Random,
     player: &'m mut Player,
     output: &'m mut Vec<u8>,
     lines: Script,
-    style: Style,
-    covered: (usize, usize),
+    first: Known,
+    second: Option<Known>,
+    patches_seed: u64,
 }
 
 /// Makes an episode, playing it on the given player.
-pub fn make_episode(random: Random, player: &mut Player, output: &mut Vec<u8>) -> Script {
+pub fn make_episode(
+    mut random: Random,
+    books: Books,
+    player: &mut Player,
+    output: &mut Vec<u8>,
+) -> Script {
+    let patches_seed = random.draw();
     let mut maker = Maker {
         random,
         player,
         output,
         lines: Vec::new(),
-        style: Style::Letters,
-        covered: (0, 0),
+        first: Known {
+            style: Style::Letters,
+            covered: (0, 0),
+        },
+        second: None,
+        patches_seed,
     };
     let scene = random_scene(&mut maker.random);
     maker.set_scene(&scene);
-    let calls = match maker.random.below(3) {
-        0 => maker.random.between(1, 5),
-        1 => maker.random.between(3, 12),
-        _ => maker.random.between(10, 25),
-    };
-    for _ in 0..calls {
-        if !maker.fits() && maker.random.chance(25) {
-            let scene = good_scene(&mut maker.random);
-            maker.set_scene(&scene);
-        }
-        maker.add_slot();
+    if books == Books::Two && maker.random.chance(50) {
+        maker.set_second_scene(&scene);
     }
-    if maker.random.chance(if maker.is_large() { 35 } else { 88 }) {
+    maker.add_slots();
+    if maker.random.chance(if maker.is_large() { 20 } else { 88 }) {
         maker.add("dump");
     }
     maker.lines
@@ -128,17 +150,94 @@ impl Maker<'_> {
     }
 
     fn is_large(&self) -> bool {
-        self.player.lent.0 > LARGE
+        self.player.first.lent.0 > LARGE
+    }
+
+    /// The calls of an episode, and what stands between them.
+    fn add_slots(&mut self) {
+        let calls = match self.random.below(3) {
+            0 => self.random.between(1, 5),
+            1 => self.random.between(3, 12),
+            _ => self.random.between(10, 25),
+        };
+        for _ in 0..calls {
+            if !self.fits() && self.random.chance(25) {
+                let scene = good_scene(&mut self.random);
+                self.set_scene(&scene);
+            }
+            self.add_slot();
+        }
+    }
+
+    /// A scene for the second side, and a first look at where the two differ.
+    fn set_second_scene(&mut self, scene: &Scene) {
+        let other = other_scene(&mut self.random, scene);
+        self.second = Some(self.first);
+        self.add_swap();
+        self.set_scene(&other);
+        if self.random.chance(50) {
+            self.add_swap();
+        }
+        self.add_differ();
+    }
+
+    /// Exchanges the sides, where there are two.
+    fn add_swap(&mut self) {
+        if let Some(second) = &mut self.second {
+            std::mem::swap(&mut self.first, second);
+            self.add("swap");
+        }
+    }
+
+    /// How many spans the two sides differ in; none where a record or a book is refused.
+    fn spans_needed(&mut self) -> Option<usize> {
+        let Player { first, second, .. } = &mut *self.player;
+        first.lend(|file, book| {
+            let one = Looked { file, book };
+            second.lend(|file, book| {
+                let fit =
+                    record_and_book_fit(one.file, one.book) && record_and_book_fit(file, book);
+                let other = Looked { file, book };
+                fit.then(|| differing_spans(one, other).len())
+            })
+        })
+    }
+
+    /// A look at where the two sides differ, with a list about as long as it needs.
+    fn add_differ(&mut self) {
+        if self.second.is_none() {
+            return;
+        }
+        let few = self.random.below(7);
+        let needed = self.spans_needed().unwrap_or(few);
+        let sizes = [
+            needed,
+            needed,
+            needed,
+            needed.saturating_sub(1),
+            needed + 1,
+            needed + 3,
+            few,
+            0,
+        ];
+        let size = if self.random.rarely(1) && self.random.chance(40) {
+            4096
+        } else {
+            self.random.pick(sizes).min(4096)
+        };
+        self.add_varied(format!("differ {size}"));
     }
 
     /// Everything that a script can set, so that nothing comes from the episode before.
     fn set_scene(&mut self, scene: &Scene) {
-        self.style = scene.style;
         let file = &scene.file;
         let shape = file.shape;
         let (text, lines, pages) = scene.lent;
         let turn = self.random.below(5);
-        self.covered = (scene.line_lengths.len(), scene.page_lengths.len());
+        self.first = Known {
+            style: scene.style,
+            covered: (scene.line_lengths.len(), scene.page_lengths.len()),
+        };
         self.add("row");
         self.add(format!(
             "shape {} {} {}",
@@ -163,15 +262,17 @@ impl Maker<'_> {
         }
     }
 
-    /// The text of a scene; of a large book most often a few parts.
+    /// The text of a scene; of a large book most often a few parts, the same ones on both
+    /// sides, so that large books may be nearly alike.
     fn add_text(&mut self, scene: &Scene) {
         if scene.text.len() <= LARGE || self.random.chance(10) {
             self.add(format!("text 0 {}", write_hex(&scene.text)));
             return;
         }
+        let mut patches = Random::new(self.patches_seed);
         for _ in 0..4 {
-            let start = self.random.below(scene.text.len());
-            let start = self.random.pick([0, start, start]).min(65_535);
+            let start = patches.below(scene.text.len());
+            let start = patches.pick([0, start, start]).min(65_535);
             let part: Vec<u8> = scene.text.iter().skip(start).take(300).copied().collect();
             self.add(format!("text {start} {}", write_hex(&part)));
         }
@@ -179,22 +280,7 @@ impl Maker<'_> {
 
     /// Lends the record and the book for a question.
     fn asked<T>(&mut self, question: impl FnOnce(&File, &Book) -> T) -> T {
-        let (text, lines, pages) = self.player.lent;
-        let book = Book {
-            text: self.player.text.get_mut(..text).unwrap_or_default(),
-            line_lengths: self
-                .player
-                .line_lengths
-                .get_mut(..lines)
-                .unwrap_or_default(),
-            page_lengths: self
-                .player
-                .page_lengths
-                .get_mut(..pages)
-                .unwrap_or_default(),
-            logical_end: self.player.logical_end,
-        };
-        question(&self.player.file, &book)
+        self.player.first.lend(|file, book| question(file, book))
     }
 
     /// Whether refusal 3 has nothing against the record and the book just now.
@@ -204,7 +290,7 @@ impl Maker<'_> {
 
     /// What is known about the record and the book just now.
     fn hints(&mut self) -> Hints {
-        let style = self.style;
+        let style = self.first.style;
         self.asked(|file, book| hints_of(file, book, style))
     }
 
@@ -235,11 +321,40 @@ impl Maker<'_> {
 
     /// One call, and what may stand before and after it.
     fn add_slot(&mut self) {
+        if self.random.chance(8) {
+            self.add_swap();
+        }
+        self.add_before_call();
+        let hints = self.hints();
+        let mut lines = Vec::new();
+        if self.random.chance(45) {
+            let row = random_row(&mut self.random, &hints);
+            lines.push(write_row(&row));
+        }
+        lines.push(write_call(&random_call(&mut self.random, &hints)));
+        self.add_call(&lines);
+        if self.second.is_some() && self.random.chance(15) {
+            self.add_swap();
+            self.add_call(&lines);
+            if self.random.chance(60) {
+                self.add_swap();
+            }
+        }
+        if self.random.chance(25) {
+            self.add_differ();
+        }
+        if !self.is_large() && self.random.chance(12) {
+            self.add("dump");
+        }
+    }
+
+    /// What may stand before the row of a call.
+    fn add_before_call(&mut self) {
         if self.random.chance(4) {
             self.add_change();
         }
-        if !self.player.file.opened && self.random.chance(15) {
-            let file = self.player.file;
+        let file = self.player.first.file;
+        if !file.opened && self.random.chance(15) {
             self.add(write_record(
                 true,
                 file.read_mood,
@@ -256,20 +371,28 @@ impl Maker<'_> {
         if self.random.rarely(1) && self.random.chance(30) {
             self.add_long_line();
         }
-        let hints = self.hints();
-        if self.random.chance(45) {
-            let row = random_row(&mut self.random, &hints);
-            self.add_varied(write_row(&row));
+    }
+
+    /// The line of a call, its row's line before it if it has one, and now and then something
+    /// between the two.
+    fn add_call(&mut self, lines: &[String]) {
+        for (index, line) in lines.iter().enumerate() {
+            if index + 1 == lines.len() {
+                self.add_between();
+            }
+            self.add_varied(line.clone());
         }
+    }
+
+    /// What now and then stands between a row and its call. A row stays over a swap, and
+    /// serves a look at the differences.
+    fn add_between(&mut self) {
         match self.random.below(120) {
             0 => self.add("dump"),
             1 => self.add_change(),
+            2 | 3 => self.add_swap(),
+            4 | 5 => self.add_differ(),
             _ => (),
-        }
-        let call = random_call(&mut self.random, &hints);
-        self.add_varied(write_call(&call));
-        if !self.is_large() && self.random.chance(12) {
-            self.add("dump");
         }
     }
 
@@ -327,24 +450,24 @@ impl Maker<'_> {
 
     /// Other lent sizes, within what the scene has set.
     fn change_of_sizes(&mut self) -> String {
-        let (text, lines, pages) = self.player.lent;
+        let (text, lines, pages) = self.player.first.lent;
         let random = &mut self.random;
         let text = (text + random.below(3)).saturating_sub(1).min(70_000);
         let lines = (lines + random.below(3)).saturating_sub(1);
         let pages = (pages + random.below(3)).saturating_sub(1);
-        let lines = lines.min(self.covered.0);
-        let pages = pages.min(self.covered.1);
+        let lines = lines.min(self.first.covered.0);
+        let pages = pages.min(self.first.covered.1);
         format!("lend {text} {lines} {pages}")
     }
 
     /// A few other lengths, some of them too large.
     fn change_of_lengths(&mut self) -> String {
-        let shape = self.player.file.shape;
+        let shape = self.player.first.file.shape;
         let of_lines = self.random.chance(60);
         let (name, room, most) = if of_lines {
-            ("lines", self.covered.0, shape.characters)
+            ("lines", self.first.covered.0, shape.characters)
         } else {
-            ("pages", self.covered.1, shape.lines)
+            ("pages", self.first.covered.1, shape.lines)
         };
         let index = self.random.below(room);
         let count = 1 + self.random.below(3);
@@ -363,8 +486,8 @@ impl Maker<'_> {
             return format!("fill {:02x}", self.random.byte());
         }
         let length = 1 + self.random.below(30);
-        let text = random_text(&mut self.random, self.style, length);
-        let index = self.random.below(self.player.lent.0).min(65_535);
+        let text = random_text(&mut self.random, self.first.style, length);
+        let index = self.random.below(self.player.first.lent.0).min(65_535);
         format!("text {index} {}", write_hex(&text))
     }
 

@@ -6,10 +6,14 @@ pub mod calls;
 pub mod checks;
 pub mod differ;
 pub mod episodes;
+pub mod pairs;
 pub mod random;
 pub mod replay;
 pub mod scenes;
 pub mod shrink;
+pub mod side;
+pub mod span_checks;
+pub mod spans;
 pub mod steps;
 
 /// Writes a line on standard output; a reader that went away is no failure.

@@ -5,13 +5,15 @@ use std::process::ExitCode;
 use std::time::{SystemTime, UNIX_EPOCH};
 
 use second::differ::{differ, scripts, Options};
+use second::episodes::Books;
 use second::replay::Player;
 use second::{checks, say};
 
 const USAGE: &str = "usage: second replay < SCRIPT
-       second differ --ours PATH [--seed N] [--episodes N] [--seconds N]
+       second differ --ours PATH [--seed N] [--episodes N] [--seconds N] [--books 1|2]
        second check [--seed N] [--episodes N]
-       second scripts [--seed N] [--episodes N] > SCRIPT";
+       second scripts [--seed N] [--episodes N] [--books 1|2] > SCRIPT
+With --books 1 the scripts have one book only, as a program without C-11 plays them.";
 
 /// Reads a script on standard input and writes what it plays, piece by piece.
 fn run_replay() -> std::io::Result<()> {
@@ -52,11 +54,21 @@ fn clock_seed() -> u64 {
     now.map_or(1, |time| time.as_nanos() as u64 % 1_000_000_000)
 }
 
-/// Fills the options of `differ` and `check`; none when one cannot be read.
+/// How many books the episodes have.
+fn read_books(word: &str) -> Option<Books> {
+    match word {
+        "1" => Some(Books::One),
+        "2" => Some(Books::Two),
+        _ => None,
+    }
+}
+
+/// Fills the options of `differ`, `check` and `scripts`; none when one cannot be read.
 fn fill_options(words: &[String], episodes: u64) -> Option<Options> {
     let mut options = Options {
         ours: String::new(),
         seed: clock_seed(),
+        books: Books::Two,
         episodes,
         seconds: None,
     };
@@ -64,6 +76,7 @@ fn fill_options(words: &[String], episodes: u64) -> Option<Options> {
         match name.as_str() {
             "--ours" => options.ours = value,
             "--seed" => options.seed = value.parse().ok()?,
+            "--books" => options.books = read_books(&value)?,
             "--episodes" => options.episodes = value.parse().ok()?,
             "--seconds" => options.seconds = Some(value.parse().ok()?),
             _ => return None,
@@ -100,7 +113,7 @@ fn run_check(options: &Options) -> bool {
 /// `second scripts`: writes random episodes as one script; the seed goes to standard error.
 fn run_scripts(options: &Options) -> bool {
     let _ = writeln!(std::io::stderr(), "second: seed {}", options.seed);
-    let script = scripts(options.seed, options.episodes);
+    let script = scripts(options);
     std::io::stdout().lock().write_all(&script).is_ok()
 }
 

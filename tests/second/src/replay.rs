@@ -3,6 +3,8 @@
 use crate::book::{Book, File, Position, Rights, Shape};
 use crate::calls;
 use crate::calls::CallResult;
+use crate::side::Side;
+use crate::spans::{Looked, Span};
 
 /// "T bytes of text (at most 70000), N line lengths (at most 1100), M page lengths (at most
 /// 300)": the room that the player keeps.
@@ -13,7 +15,7 @@ pub const PAGES_ROOM: usize = 300;
 /// "A line is at most 140,000 bytes; a longer one is bad."
 pub const LONGEST_LINE: usize = 140_000;
 
-/// The largest output of `gets` and `whole`.
+/// The largest output of `gets` and `whole`, and the most entries of the list of `differ`.
 const LARGEST_OUTPUT: u64 = 4_096;
 
 /// "Numbers are decimal, at most 65535 unless said."
@@ -55,8 +57,11 @@ pub enum Line {
     Lines(usize, Vec<u8>),
     Pages(usize, Vec<u8>),
     Row(Vec<u32>),
+    Swap,
     Dump,
     Call(Call),
+    /// The call of C-11, with the entries of its list. It takes both sides, so it is no `Call`.
+    Differ(usize),
 }
 
 /// A decimal number with a limit. Leading zeros are read; signs are not.
@@ -194,7 +199,7 @@ fn read_placed(index: &[u8], hex: &[u8], room: usize) -> Option<(usize, Vec<u8>)
     Some((index, bytes))
 }
 
-/// The lines that set the scene, and `dump`.
+/// The lines that set the scene, `swap` and `dump`.
 fn read_scene_line(words: &[&[u8]]) -> Option<Line> {
     match words {
         [b"shape", p, l, c] => Some(Line::Shape(Shape {
@@ -218,12 +223,13 @@ fn read_scene_line(words: &[&[u8]]) -> Option<Line> {
         [b"lines", i, hex] => read_placed(i, hex, LINES_ROOM).map(|(i, b)| Line::Lines(i, b)),
         [b"pages", i, hex] => read_placed(i, hex, PAGES_ROOM).map(|(i, b)| Line::Pages(i, b)),
         [b"row", words @ ..] => read_row(words),
+        [b"swap"] => Some(Line::Swap),
         [b"dump"] => Some(Line::Dump),
         _ => None,
     }
 }
 
-/// The calls.
+/// The calls on one side.
 fn read_call(words: &[&[u8]]) -> Option<Call> {
     match words {
         [b"establish"] => Some(Call::Establish),
@@ -262,7 +268,10 @@ fn read_call(words: &[&[u8]]) -> Option<Call> {
 /// Reads a line: "Words are separated by one blank." None when it is bad.
 pub fn read_line(line: &[u8]) -> Option<Line> {
     let words: Vec<&[u8]> = line.split(|&byte| byte == b' ').collect();
-    read_scene_line(&words).or_else(|| read_call(&words).map(Line::Call))
+    match words.as_slice() {
+        [b"differ", size] => read_size(size, LARGEST_OUTPUT).map(Line::Differ),
+        words => read_scene_line(words).or_else(|| read_call(words).map(Line::Call)),
+    }
 }
 
 /// Bytes as pairs of hex digits in lower case, `-` for none.
@@ -336,58 +345,30 @@ pub fn write_position(place: Position) -> String {
     format!("{} {} {}", place.page, place.line, place.character)
 }
 
-/// The player: one record, one book, the answers for the next call, and the line being read.
+/// The call of C-11 on two sides. Its list is lent full of ee.
+pub fn make_differ(size: usize, first: &mut Side, second: &mut Side) -> CallResult {
+    let mut list = vec![Span::filled(0xee); size];
+    first.lend(|file, book| {
+        let one = Looked { file, book };
+        second.lend(|file, book| calls::differ(one, Looked { file, book }, &mut list))
+    })
+}
+
+/// The player: two sides, the answers for the next call, and the line being read. "All lines
+/// and calls work on the first side."
+#[derive(Default)]
 pub struct Player {
-    pub file: File,
-    pub logical_end: Position,
-    pub lent: (usize, usize, usize),
-    pub line_lengths: Vec<u8>,
-    pub page_lengths: Vec<u8>,
-    pub text: Vec<u8>,
+    pub first: Side,
+    pub second: Side,
     row: Vec<u32>,
     line_number: u64,
     unfinished: Vec<u8>,
 }
 
-impl Default for Player {
-    fn default() -> Player {
-        Player::new()
-    }
-}
-
 impl Player {
-    /// "At the start: shape 2 3 8, rights `gprc`, lent sizes 48, 6, 2, every length and byte of
-    /// the book 0, logical end 1 1 1, record not open, no moods, position 1 1 1, no answers."
+    /// "Both are alike at the start", and there are no answers.
     pub fn new() -> Player {
-        let file = File {
-            opened: false,
-            read_mood: false,
-            write_mood: false,
-            position: Position::START,
-            shape: Shape {
-                pages: 2,
-                lines: 3,
-                characters: 8,
-            },
-            rights: Rights {
-                get: true,
-                put: true,
-                set: false,
-                reset: true,
-                compress: true,
-            },
-        };
-        Player {
-            file,
-            logical_end: Position::START,
-            lent: (48, 6, 2),
-            line_lengths: vec![0; LINES_ROOM],
-            page_lengths: vec![0; PAGES_ROOM],
-            text: vec![0; TEXT_ROOM],
-            row: Vec::new(),
-            line_number: 0,
-            unfinished: Vec::new(),
-        }
+        Player::default()
     }
 
     /// Takes the next bytes of the script, whatever they are, and plays the lines they end.
@@ -431,6 +412,8 @@ impl Player {
         match read {
             None => output.extend(format!("bad line {}\n", self.line_number).bytes()),
             Some(Line::Call(call)) => self.play_call(&call, output),
+            Some(Line::Differ(size)) => self.play_differ(size, output),
+            Some(Line::Swap) => std::mem::swap(&mut self.first, &mut self.second),
             Some(Line::Dump) => self.dump(output),
             Some(scene) => self.set_scene(scene),
         }
@@ -438,48 +421,51 @@ impl Player {
 
     /// The lines that set the scene: no output.
     fn set_scene(&mut self, line: Line) {
+        let side = &mut self.first;
         match line {
-            Line::Shape(shape) => self.file.shape = shape,
-            Line::Lend(text, lines, pages) => self.lent = (text, lines, pages),
-            Line::Rights(rights) => self.file.rights = rights,
+            Line::Shape(shape) => side.file.shape = shape,
+            Line::Lend(text, lines, pages) => side.lent = (text, lines, pages),
+            Line::Rights(rights) => side.file.rights = rights,
             Line::Record([opened, read_mood, write_mood], position) => {
-                self.file.opened = opened;
-                self.file.read_mood = read_mood;
-                self.file.write_mood = write_mood;
-                self.file.position = position;
+                side.file.opened = opened;
+                side.file.read_mood = read_mood;
+                side.file.write_mood = write_mood;
+                side.file.position = position;
             }
-            Line::End(end) => self.logical_end = end,
-            Line::Fill(byte) => self.text.fill(byte),
-            Line::Text(index, bytes) => copy_into(&mut self.text, index, &bytes),
-            Line::Lines(index, bytes) => copy_into(&mut self.line_lengths, index, &bytes),
-            Line::Pages(index, bytes) => copy_into(&mut self.page_lengths, index, &bytes),
+            Line::End(end) => side.logical_end = end,
+            Line::Fill(byte) => side.text.fill(byte),
+            Line::Text(index, bytes) => copy_into(&mut side.text, index, &bytes),
+            Line::Lines(index, bytes) => copy_into(&mut side.line_lengths, index, &bytes),
+            Line::Pages(index, bytes) => copy_into(&mut side.page_lengths, index, &bytes),
             Line::Row(row) => self.row = row,
-            Line::Dump | Line::Call(_) => (),
+            Line::Swap | Line::Dump | Line::Call(_) | Line::Differ(_) => (),
         }
     }
 
-    /// Makes a call on the lent parts. "A row serves the next call, whatever call that is and
+    /// Makes a call on the first side. "A row serves the next call, whatever call that is and
     /// whether or not it is refused."
     fn play_call(&mut self, call: &Call, output: &mut Vec<u8>) {
         let row = std::mem::take(&mut self.row);
-        let (text, lines, pages) = self.lent;
-        let mut book = Book {
-            text: self.text.get_mut(..text).unwrap_or_default(),
-            line_lengths: self.line_lengths.get_mut(..lines).unwrap_or_default(),
-            page_lengths: self.page_lengths.get_mut(..pages).unwrap_or_default(),
-            logical_end: self.logical_end,
-        };
-        let result = make_call(call, &mut self.file, &mut book, &row);
-        self.logical_end = book.logical_end;
-        self.show(call, &result, output);
+        let result = self
+            .first
+            .lend(|file, book| make_call(call, file, book, &row));
+        self.show(call_name(call), &result, output);
+    }
+
+    /// Compares the first side with the second. The row has served, though the call takes none.
+    fn play_differ(&mut self, size: usize, output: &mut Vec<u8>) {
+        self.row.clear();
+        let result = make_differ(size, &mut self.first, &mut self.second);
+        self.show("differ", &result, output);
     }
 
     /// "NAME NUMBER EVENTS TAKEN STOP COUNT VALUE BYTES | OPENED READ WRITE p l c | p l c".
-    fn show(&self, call: &Call, result: &CallResult, output: &mut Vec<u8>) {
+    fn show(&self, name: &str, result: &CallResult, output: &mut Vec<u8>) {
         let value = result.value.map_or("-".to_string(), |n| n.to_string());
+        let file = &self.first.file;
         let shown = format!(
             "{} {} {} {} {} {} {} {} | {} {} {} {} | {}\n",
-            call_name(call),
+            name,
             result.number,
             result.events,
             result.taken,
@@ -487,26 +473,19 @@ impl Player {
             result.count,
             value,
             write_hex(&result.bytes),
-            u8::from(self.file.opened),
-            u8::from(self.file.read_mood),
-            u8::from(self.file.write_mood),
-            write_position(self.file.position),
-            write_position(self.logical_end),
+            u8::from(file.opened),
+            u8::from(file.read_mood),
+            u8::from(file.write_mood),
+            write_position(file.position),
+            write_position(self.first.logical_end),
         );
         output.extend(shown.bytes());
     }
 
     /// "`dump` writes three lines, `lines HEX`, `pages HEX` and `text HEX`: the lent parts."
     fn dump(&self, output: &mut Vec<u8>) {
-        let (text, lines, pages) = self.lent;
-        let parts = [
-            ("lines", self.line_lengths.get(..lines)),
-            ("pages", self.page_lengths.get(..pages)),
-            ("text", self.text.get(..text)),
-        ];
-        for (name, part) in parts {
-            let shown = format!("{name} {}\n", write_hex(part.unwrap_or_default()));
-            output.extend(shown.bytes());
+        for (name, part) in self.first.lent_parts() {
+            output.extend(format!("{name} {}\n", write_hex(part)).bytes());
         }
     }
 }

@@ -193,7 +193,7 @@ fn random_shape(random: &mut Random, style: Style) -> Shape {
 }
 
 /// The sizes that fit a shape, as far as the room of a script goes.
-fn sizes_of(shape: Shape) -> (usize, usize, usize) {
+pub fn sizes_of(shape: Shape) -> (usize, usize, usize) {
     let pages = u64::from(shape.pages);
     let lines = pages * u64::from(shape.lines);
     let text = lines.saturating_mul(u64::from(shape.characters));
@@ -229,7 +229,7 @@ fn random_lengths(random: &mut Random, count: usize, most: u32) -> Vec<u8> {
 }
 
 /// The moods that a record with these rights may have.
-fn random_moods(random: &mut Random, rights: Rights) -> (bool, bool) {
+pub fn random_moods(random: &mut Random, rights: Rights) -> (bool, bool) {
     match random.below(5) {
         0 => (false, false),
         1 | 2 => (rights.get, !rights.get && rights.put),
@@ -239,7 +239,7 @@ fn random_moods(random: &mut Random, rights: Rights) -> (bool, bool) {
 
 impl Scene {
     /// The lent parts of the scene as a book, for questions about it.
-    fn asked<T>(&mut self, question: impl FnOnce(Shape, &Book) -> T) -> T {
+    pub fn asked<T>(&mut self, question: impl FnOnce(Shape, &Book) -> T) -> T {
         let (text, lines, pages) = self.lent;
         let book = Book {
             text: self.text.get_mut(..text).unwrap_or_default(),
@@ -251,7 +251,7 @@ impl Scene {
     }
 
     /// A place in bounds.
-    fn random_place(&mut self, random: &mut Random) -> Position {
+    pub fn random_place(&mut self, random: &mut Random) -> Position {
         self.asked(|shape, book| {
             let past_pages = u32::from(random.chance(30));
             let page = random.between(1, shape.pages + past_pages);
@@ -264,7 +264,7 @@ impl Scene {
     }
 
     /// A place in bounds and not beyond the logical end.
-    fn random_position(&mut self, random: &mut Random) -> Position {
+    pub fn random_position(&mut self, random: &mut Random) -> Position {
         for _ in 0..8 {
             let place = self.random_place(random);
             if !place.beyond(self.logical_end) {
@@ -322,15 +322,15 @@ fn later(one: Position, other: Position) -> Position {
     }
 }
 
-/// One number changed to another that a rule may not allow.
+/// One number changed to another that a rule may not allow, but a script can hold.
 fn spoil_number(random: &mut Random, number: u32) -> u32 {
     match random.below(6) {
         0 => 0,
         1 => 256,
         2 => 65_535,
         3 => number.saturating_sub(1),
-        4 => number + 1,
-        _ => number + 2,
+        4 => (number + 1).min(65_535),
+        _ => (number + 2).min(65_535),
     }
 }
 
@@ -422,6 +422,12 @@ pub fn random_scene(random: &mut Random) -> Scene {
             spoil_scene(random, &mut scene);
         }
     }
+    cover_lent(&mut scene);
+    scene
+}
+
+/// Gives a length to every line and page that is lent, so that none comes from before.
+pub fn cover_lent(scene: &mut Scene) {
     let (_, lines, pages) = scene.lent;
     let most = u8::try_from(scene.file.shape.characters).unwrap_or(u8::MAX);
     if scene.line_lengths.len() < lines {
@@ -430,7 +436,6 @@ pub fn random_scene(random: &mut Random) -> Scene {
     if scene.page_lengths.len() < pages {
         scene.page_lengths.resize(pages, 1);
     }
-    scene
 }
 
 /// A place to set to: inside, at and past the end, out of bounds, with a 0.
@@ -594,8 +599,9 @@ fn random_whole(random: &mut Random) -> Call {
         length + 3,
         0,
         12,
-        4096,
+        40,
     ]);
+    let size = if random.rarely(20) { 4096 } else { size };
     Call::Whole(value, width, size.min(4096))
 }
 

@@ -3,7 +3,7 @@
 use std::time::{SystemTime, UNIX_EPOCH};
 
 use second::book::Position as ScriptPosition;
-use second::episodes::make_episode;
+use second::episodes::{make_episode, Books};
 use second::random::Random;
 use second::replay::{read_line, Call, Line, Player};
 use second::replay::{LINES_ROOM, LONGEST_LINE, PAGES_ROOM, TEXT_ROOM};
@@ -40,9 +40,10 @@ pub struct Episode {
     pub large: usize,
 }
 
-/// Makes an episode. The player only serves to make it, and may be used again.
+/// Makes an episode with one book, since the stage has one. The player only serves to make it, and may be used again.
 pub fn make(seed: u64, number: u64, player: &mut Player) -> Episode {
-    let script = make_episode(Random::for_episode(seed, number), player, &mut Vec::new());
+    let random = Random::for_episode(seed, number);
+    let script = make_episode(random, Books::One, player, &mut Vec::new());
     let short = script.into_iter().filter(|line| line.len() <= LONGEST_LINE);
     let lines = short.filter_map(|text| read_line(&text).map(|line| (text, line)));
     Episode {
@@ -160,7 +161,7 @@ impl Stage {
             Line::Lines(index, bytes) => change(lines, &mut book.lines, *index, bytes),
             Line::Pages(index, bytes) => change(pages, &mut book.pages, *index, bytes),
             Line::Row(row) => self.row = row.clone(),
-            Line::Dump | Line::Call(_) => (),
+            Line::Swap | Line::Dump | Line::Call(_) | Line::Differ(_) => (),
         }
     }
 }
