@@ -8,7 +8,7 @@
  *  - a pointer to a record points to a whole transput_file, and each of its flags is a bool that C wrote (0 or 1);
  *  - a pointer and the length after it name so many elements that may be read, and where the pointer is not const, written, until
  *    the call returns; a length of 0 goes with any pointer, null too;
- *  - what may be written overlaps nothing else that is passed to the same call, the record included;
+ *  - what may be written overlaps nothing else that is passed to the same call, the records included;
  *  - no other thread touches what is passed while the call runs.
  */
 #ifndef TRANSPUT_H
@@ -93,6 +93,21 @@ typedef struct transput_wrote {
     size_t count;
 } transput_wrote;
 
+/* A span of one line on which two books differ: its page, line, first and last character. A line that only one book shows is one
+ * span from 1, ending at 0 where it is empty. */
+typedef struct transput_span {
+    uint8_t page;
+    uint8_t line;
+    uint8_t first;
+    uint8_t last;
+} transput_span;
+
+/* What a comparison of two books hands back: its number, and how many spans there are; 0 where it is refused. */
+typedef struct transput_differences {
+    uint8_t number; /* TRANSPUT_DONE; or NOT_OPEN or BAD_BOOK, of either book; or OUTPUT_TOO_SHORT, of the list */
+    size_t count;
+} transput_differences;
+
 /* The number of a call: 0, or why it was refused. A refusal before work changes nothing; one during work, 4 and 5 inside an
  * answer too, leaves the steps that were done. */
 enum {
@@ -108,7 +123,7 @@ enum {
     TRANSPUT_BAD_VALUE = 9,         /* -2147483648 put, or an integer read that is above 2147483647 */
     TRANSPUT_LINE_TOO_SHORT = 10,   /* the line has no room for an integer */
     TRANSPUT_JUMPED = 11,           /* an answer of kind 8: the program jumped away */
-    TRANSPUT_OUTPUT_TOO_SHORT = 12  /* the output lent to whole */
+    TRANSPUT_OUTPUT_TOO_SHORT = 12  /* the output lent to whole, or the list lent to differ */
 };
 
 /* Why a get of a string stopped. Number 0 alone does not say that a string was read whole; the stop does. */
@@ -144,8 +159,9 @@ static inline uint32_t transput_answer(uint32_t kind, uint32_t page, uint32_t li
 
 /* Each call but transput_whole takes the record, the book's logical end, arguments of its own, the text (pages * lines *
  * characters bytes), the line lengths (one byte a line), the page lengths (one byte a page) and, where it can signal an event, a
- * row of answers: each event takes the next, past the row's end every event is answered 0. Calls that take the lengths as const
- * leave the logical end as it is; so does every call that is refused before work. */
+ * row of answers: each event takes the next, past the row's end every event is answered 0. The two calls that compare books take
+ * both records first, and then one book after the other. Calls that take the lengths as const leave the logical end as it is; so
+ * does every call that is refused before work. */
 
 /* Establishes a book over lent memory: every length full, the end and the position (1,1,1), write mood. No character is wiped,
  * and the logical end that is passed is not looked at. */
@@ -226,6 +242,20 @@ transput_view transput_line_view(const transput_file *file, transput_position en
 /* The number of a line view, asked for apart. */
 transput_result transput_view_number(const transput_file *file, transput_position end, size_t page, size_t line,
     const uint8_t *text, size_t text_length, const uint8_t *lines, size_t lines_length, const uint8_t *pages, size_t pages_length);
+
+/* Lists every span of a line on which the shown texts of two books differ, in the order of their positions, each as long as it can
+ * be; the shapes may differ, and a blank is not nothing. The list is bytes, four a span, so an array of transput_span can be lent
+ * with its size in bytes; what lies past the count is untouched, and a list that is too short is left as it was. */
+transput_differences transput_differ(const transput_file *file, const transput_file *other_file, transput_position end,
+    const uint8_t *text, size_t text_length, const uint8_t *lines, size_t lines_length, const uint8_t *pages, size_t pages_length,
+    transput_position other_end, const uint8_t *other_text, size_t other_text_length, const uint8_t *other_lines,
+    size_t other_lines_length, const uint8_t *other_pages, size_t other_pages_length, uint8_t *list, size_t list_length);
+
+/* How many such spans there are, asked for apart: the list needs four bytes for each. */
+transput_differences transput_difference_count(const transput_file *file, const transput_file *other_file, transput_position end,
+    const uint8_t *text, size_t text_length, const uint8_t *lines, size_t lines_length, const uint8_t *pages, size_t pages_length,
+    transput_position other_end, const uint8_t *other_text, size_t other_text_length, const uint8_t *other_lines,
+    size_t other_lines_length, const uint8_t *other_pages, size_t other_pages_length);
 
 /* whole(v, w), w from -255 to 255, at the start of the output; the output past it is untouched. */
 transput_wrote transput_whole(int32_t v, int32_t w, uint8_t *output, size_t output_length);

@@ -1,6 +1,7 @@
 // The thin layer: the interpreter keeps one file record and lends it to be changed at each call. Each function takes the record apart,
 // calls the core on it and stores the new one; each gives and leaves what the core does. All are exported for C, whose
 // declarations stand in include/transput.h; only the line view is not, since C can be handed no slice.
+use differs::Differences;
 use numbers::CallResult;
 use rules::File;
 use rules::Position;
@@ -12,6 +13,7 @@ ghost use Rattle.rules.specs.Whole.{whole};
 ghost use Rattle.rules.specs.Calls.{book, call, plain, asking, establishes, opens, closes, resets, backspaces, views, viewNumbers, putsCharacter, putsString, putsInteger, getsCharacter, getsString, getsInteger, spaces, newlines, newpages, sets, setsCharacterNumber};
 ghost use Rattle.views.specs.Spans.{viewAfter, Viewed};
 ghost use Rattle.numbers.specs.Numbers.{afterNumbers};
+ghost use Rattle.differences.specs.Compare.{answer, compared, differ, differenceCount};
 
 // Establishes a book over lent memory: every length full, and no character wiped.
 #[no_mangle]
@@ -334,6 +336,68 @@ pub fn line_view<'f, 'a>(
     ensures { λ r. ⌜ viewAfter (now r) (now (file .entry)) (book (now (text .entry)) (now (lines .entry)) (now (pages .entry)) end) ≡ call (plain (views page line (now (marker .entry)))) (now (file .entry)) (book (now (text .entry)) (now (lines .entry)) (now (pages .entry)) end) ⌝ }
 {
     views::line_view(*file, end, page, line, text, lines, pages, marker)
+}
+
+// The spans on which the shown texts of two books differ, written to a lent list, four bytes a span.
+#[no_mangle]
+pub extern "C" fn transput_differ(
+    file: &File,
+    other_file: &File,
+    end: Position,
+    text: &[u8],
+    lines: &[u8],
+    pages: &[u8],
+    other_end: Position,
+    other_text: &[u8],
+    other_lines: &[u8],
+    other_pages: &[u8],
+    list: &mut [u8],
+) -> Differences
+    ensures { λ r. ⌜ compared (book (now (text .entry)) (now (lines .entry)) (now (pages .entry)) end) (book (now («other_text» .entry)) (now («other_lines» .entry)) (now («other_pages» .entry)) «other_end») (answer (r .number) (r .count) (now (list .exit))) ≡ differ (now (file .entry)) (book (now (text .entry)) (now (lines .entry)) (now (pages .entry)) end) (now («other_file» .entry)) (book (now («other_text» .entry)) (now («other_lines» .entry)) (now («other_pages» .entry)) «other_end») (now (list .entry)) ⌝ }
+{
+    differs::differ(
+        *file,
+        *other_file,
+        end,
+        text,
+        lines,
+        pages,
+        other_end,
+        other_text,
+        other_lines,
+        other_pages,
+        list,
+    )
+}
+
+// How many such spans there are.
+#[no_mangle]
+pub extern "C" fn transput_difference_count(
+    file: &File,
+    other_file: &File,
+    end: Position,
+    text: &[u8],
+    lines: &[u8],
+    pages: &[u8],
+    other_end: Position,
+    other_text: &[u8],
+    other_lines: &[u8],
+    other_pages: &[u8],
+) -> Differences
+    ensures { λ r. ⌜ compared (book (now (text .entry)) (now (lines .entry)) (now (pages .entry)) end) (book (now («other_text» .entry)) (now («other_lines» .entry)) (now («other_pages» .entry)) «other_end») (answer (r .number) (r .count) []) ≡ differenceCount (now (file .entry)) (book (now (text .entry)) (now (lines .entry)) (now (pages .entry)) end) (now («other_file» .entry)) (book (now («other_text» .entry)) (now («other_lines» .entry)) (now («other_pages» .entry)) «other_end») ⌝ }
+{
+    differs::difference_count(
+        *file,
+        *other_file,
+        end,
+        text,
+        lines,
+        pages,
+        other_end,
+        other_text,
+        other_lines,
+        other_pages,
+    )
 }
 
 // whole(v, w) at the start of a lent output.

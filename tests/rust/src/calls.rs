@@ -1,7 +1,7 @@
 //! Each call of the header over a `Book` and slices, with its result in plain numbers. This is the only module with unsafe code.
 //!
 //! What the header asks of a caller, and why each call here keeps it:
-//! - the record is a whole `File`, and a Rust `bool` is 0 or 1;
+//! - a record is a whole `File`, and a Rust `bool` is 0 or 1;
 //! - every pointer and length come from one slice or vector, so they name memory that may be read, and written where it is
 //!   borrowed for writing; an empty one has some pointer, and the header takes any;
 //! - what may be written is borrowed for writing, so it overlaps nothing else and no other thread touches it;
@@ -48,6 +48,34 @@ macro_rules! asking {
                 $book.pages.len(),
                 $row.as_ptr(),
                 $row.len(),
+            )
+        }
+    };
+}
+
+/// A call that only reads two books. Its own arguments stand after them.
+macro_rules! comparing {
+    ($call:ident, $file:ident, $book:ident, $other_file:ident, $other_book:ident, [$($after:expr),*]) => {
+        // SAFETY: as this module's comment says. The two books are only read, so they may be one.
+        unsafe {
+            $call(
+                $file,
+                $other_file,
+                $book.end,
+                $book.text.as_ptr(),
+                $book.text.len(),
+                $book.lines.as_ptr(),
+                $book.lines.len(),
+                $book.pages.as_ptr(),
+                $book.pages.len(),
+                $other_book.end,
+                $other_book.text.as_ptr(),
+                $other_book.text.len(),
+                $other_book.lines.as_ptr(),
+                $other_book.lines.len(),
+                $other_book.pages.as_ptr(),
+                $other_book.pages.len(),
+                $($after,)*
             )
         }
     };
@@ -163,6 +191,48 @@ pub fn line_view(file: &File, book: &Book, page: usize, line: usize, marker: &[u
 
 pub fn view_number(file: &File, book: &Book, page: usize, line: usize) -> CallResult {
     reading!(transput_view_number, file, book, [page, line], [])
+}
+
+/// Writes the spans to a list of bytes, four a span.
+pub fn differ(
+    file: &File,
+    book: &Book,
+    other_file: &File,
+    other_book: &Book,
+    list: &mut [u8],
+) -> Differences {
+    let (start, length) = (list.as_mut_ptr(), list.len());
+    comparing!(
+        transput_differ,
+        file,
+        book,
+        other_file,
+        other_book,
+        [start, length]
+    )
+}
+
+pub fn difference_count(
+    file: &File,
+    book: &Book,
+    other_file: &File,
+    other_book: &Book,
+) -> Differences {
+    comparing!(
+        transput_difference_count,
+        file,
+        book,
+        other_file,
+        other_book,
+        []
+    )
+}
+
+/// A list of spans as the bytes that the library writes.
+pub fn bytes_of(list: &mut [Span]) -> &mut [u8] {
+    let length = std::mem::size_of_val(list);
+    // SAFETY: a span is four bytes and nothing between them, any bytes make one, and the list stays borrowed for writing.
+    unsafe { std::slice::from_raw_parts_mut(list.as_mut_ptr().cast(), length) }
 }
 
 pub fn whole(value: i32, width: i32, output: &mut [u8]) -> Wrote {

@@ -76,6 +76,27 @@ pub struct Wrote {
     pub count: usize,
 }
 
+/// A span of one line on which two books differ. A line that only one book shows is one span from 1, ending at 0 where it is
+/// empty. The order of the fields is the order of comparison.
+#[repr(C)]
+#[derive(Clone, Copy, PartialEq, Eq, PartialOrd, Ord, Debug, Default)]
+pub struct Span {
+    pub page: u8,
+    pub line: u8,
+    /// The first character.
+    pub first: u8,
+    /// The last character.
+    pub last: u8,
+}
+
+/// The header's `transput_differences`.
+#[repr(C)]
+#[derive(Clone, Copy, PartialEq, Eq, Debug)]
+pub struct Differences {
+    pub number: u8,
+    pub count: usize,
+}
+
 extern "C" {
     pub fn transput_establish(
         file: *mut File,
@@ -312,6 +333,46 @@ extern "C" {
         pages: *const u8,
         pages_length: usize,
     ) -> CallResult;
+
+    pub fn transput_differ(
+        file: *const File,
+        other_file: *const File,
+        end: Position,
+        text: *const u8,
+        text_length: usize,
+        lines: *const u8,
+        lines_length: usize,
+        pages: *const u8,
+        pages_length: usize,
+        other_end: Position,
+        other_text: *const u8,
+        other_text_length: usize,
+        other_lines: *const u8,
+        other_lines_length: usize,
+        other_pages: *const u8,
+        other_pages_length: usize,
+        list: *mut u8,
+        list_length: usize,
+    ) -> Differences;
+
+    pub fn transput_difference_count(
+        file: *const File,
+        other_file: *const File,
+        end: Position,
+        text: *const u8,
+        text_length: usize,
+        lines: *const u8,
+        lines_length: usize,
+        pages: *const u8,
+        pages_length: usize,
+        other_end: Position,
+        other_text: *const u8,
+        other_text_length: usize,
+        other_lines: *const u8,
+        other_lines_length: usize,
+        other_pages: *const u8,
+        other_pages_length: usize,
+    ) -> Differences;
 
     pub fn transput_whole(v: i32, w: i32, output: *mut u8, output_length: usize) -> Wrote;
 }

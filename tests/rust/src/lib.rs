@@ -22,6 +22,25 @@
 //! assert_eq!(got.stop, Some(Stop::FileEnded));
 //! # Ok::<(), transput::Refusal>(())
 //! ```
+//!
+//! Two books, each with its record, can be compared:
+//!
+//! ```
+//! use transput::{Book, File, Rights, Shape, Span};
+//!
+//! let shape = Shape { pages: 1, lines: 2, characters: 12 };
+//! let rights = Rights { get: true, put: true, ..Rights::default() };
+//! let render = |title: &[u8]| {
+//!     let (mut file, mut book) = (File::new(shape, rights), Book::new(shape));
+//!     file.establish(&mut book).done()?;
+//!     file.put_string(&mut book, title, &[]).done()?;
+//!     Ok::<(File, Book), transput::Refusal>((file, book))
+//! };
+//! let (before, after) = (render(b"My page")?, render(b"My pages")?);
+//! let spans = before.0.differences(&before.1, &after.0, &after.1)?;
+//! assert_eq!(spans, [Span { page: 1, line: 1, first: 8, last: 8 }]);
+//! # Ok::<(), transput::Refusal>(())
+//! ```
 #![deny(unsafe_code)]
 
 #[allow(unsafe_code)]
@@ -29,7 +48,8 @@ pub mod calls;
 pub mod declarations;
 mod results;
 
-pub use declarations::{CallResult, File, Position, Rights, Shape};
+use declarations::Differences;
+pub use declarations::{CallResult, File, Position, Rights, Shape, Span};
 pub use results::{Answer, Given, Outcome, Refusal, Stop, View};
 
 impl Position {
@@ -221,6 +241,48 @@ impl File {
     pub fn view_number(&self, book: &Book, page: usize, line: usize) -> Outcome {
         calls::view_number(self, book, page, line).into()
     }
+
+    /// Every span of a line on which what the two books show differs, in the order of their positions, each as long as it can
+    /// be.
+    pub fn differences(
+        &self,
+        book: &Book,
+        other_file: &File,
+        other_book: &Book,
+    ) -> Result<Vec<Span>, Refusal> {
+        let count = self.difference_count(book, other_file, other_book)?;
+        let mut list = vec![Span::default(); count];
+        self.differ(book, other_file, other_book, &mut list)?;
+        Ok(list)
+    }
+
+    /// The same spans at the start of a lent list: how many they are. The list past them is untouched, and one that is too
+    /// short is left as it was.
+    pub fn differ(
+        &self,
+        book: &Book,
+        other_file: &File,
+        other_book: &Book,
+        list: &mut [Span],
+    ) -> Result<usize, Refusal> {
+        let list = calls::bytes_of(list);
+        count_of(calls::differ(self, book, other_file, other_book, list))
+    }
+
+    /// How many such spans there are.
+    pub fn difference_count(
+        &self,
+        book: &Book,
+        other_file: &File,
+        other_book: &Book,
+    ) -> Result<usize, Refusal> {
+        count_of(calls::difference_count(self, book, other_file, other_book))
+    }
+}
+
+/// How many spans there are, where a comparison of two books was done.
+fn count_of(differences: Differences) -> Result<usize, Refusal> {
+    Refusal::of_number(differences.number).map_or(Ok(differences.count), Err)
 }
 
 /// whole(value, width), width from -255 to 255, at the start of the output: how many characters were written. The output past

@@ -10,8 +10,9 @@ use std::collections::BTreeSet;
 use std::fmt::Write;
 use std::process::Command;
 
-use episodes::{Episode, Stage};
+use episodes::{Episode, Side, Stage};
 use second::replay::{call_name, Call, Line, Player};
+use transput::declarations::Differences;
 use transput::{calls, CallResult, Position};
 
 /// Episodes in the script; every call comes many times.
@@ -41,9 +42,9 @@ fn print_position(printed: &mut String, name: &str, place: Position) {
     print_line(printed, format_args!("{name} {page} {line} {character}"));
 }
 
-/// The record, the book and the output, as play.c prints them.
-fn print_stage(printed: &mut String, stage: &Stage, output: &[u8]) {
-    let file = &stage.file;
+/// A record and its book, as play.c prints them.
+fn print_side(printed: &mut String, side: &Side) {
+    let file = &side.file;
     let flag = u8::from;
     let moods = (flag(file.opened), flag(file.reading), flag(file.writing));
     print_line(
@@ -66,9 +67,15 @@ fn print_stage(printed: &mut String, stage: &Stage, output: &[u8]) {
         printed,
         format_args!("rights {get} {put} {set} {reset} {compress}"),
     );
-    print_bytes(printed, "text", &stage.book.text);
-    print_bytes(printed, "lines", &stage.book.lines);
-    print_bytes(printed, "pages", &stage.book.pages);
+    print_position(printed, "book end", side.book.end);
+    print_bytes(printed, "text", &side.book.text);
+    print_bytes(printed, "lines", &side.book.lines);
+    print_bytes(printed, "pages", &side.book.pages);
+}
+
+/// The first side and the output, as play.c prints them.
+fn print_stage(printed: &mut String, stage: &Stage, output: &[u8]) {
+    print_side(printed, &stage.first);
     print_bytes(printed, "output", output);
 }
 
@@ -98,7 +105,7 @@ fn print_result(printed: &mut String, result: &CallResult) {
 fn make_call(stage: &mut Stage, call: &Call, output: &mut [u8]) -> CallResult {
     let row = std::mem::take(&mut stage.row);
     let [page, line, number] = stage.numbers(call);
-    let (file, book) = (&mut stage.file, &mut stage.book);
+    let Side { file, book, .. } = &mut stage.first;
     match call {
         Call::Establish => calls::establish(file, book),
         Call::Open => calls::open(file, book),
@@ -124,8 +131,9 @@ fn make_call(stage: &mut Stage, call: &Call, output: &mut [u8]) -> CallResult {
 /// What a view and whole hand back beside, or instead of, a result.
 fn print_own_line(stage: &Stage, call: &Call, output: &mut [u8], printed: &mut String) {
     let [page, line, _] = stage.numbers(call);
+    let Side { file, book, .. } = &stage.first;
     if let Call::View(_, _, marker) = call {
-        let view = calls::line_view(&stage.file, &stage.book, page, line, marker);
+        let view = calls::line_view(file, book, page, line, marker);
         let (number, flag) = (view.number, u8::from(view.marker));
         let (from, count) = (view.from, view.count);
         print_line(printed, format_args!("view {number} {flag} {from} {count}"));
@@ -146,16 +154,37 @@ fn play_call(stage: &mut Stage, call: &Call, printed: &mut String) {
         stage.row.clear();
     } else {
         let result = make_call(stage, call, &mut output);
-        stage.book.end = result.end;
+        stage.first.book.end = result.end;
         print_result(printed, &result);
     }
     print_stage(printed, stage, &output);
+}
+
+fn print_differences(printed: &mut String, name: &str, differences: Differences) {
+    let Differences { number, count } = differences;
+    print_line(printed, format_args!("{name} {number} {count}"));
+}
+
+/// Plays a look at where the two books differ, and the count apart, as play.c does.
+fn play_differ(stage: &mut Stage, entries: usize, printed: &mut String) {
+    let mut list = episodes::list_for(entries);
+    let (one, other) = (&stage.first, &stage.other);
+    let listed = calls::differ(&one.file, &one.book, &other.file, &other.book, &mut list);
+    let counted = calls::difference_count(&one.file, &one.book, &other.file, &other.book);
+    print_line(printed, format_args!("call differ"));
+    print_differences(printed, "listed", listed);
+    print_differences(printed, "counted", counted);
+    print_bytes(printed, "list", &list);
+    print_side(printed, one);
+    print_side(printed, other);
+    stage.row.clear();
 }
 
 /// What play.c prints for a line of a script.
 fn play_line(stage: &mut Stage, line: &Line, printed: &mut String) {
     match line {
         Line::Call(call) => play_call(stage, call, printed),
+        Line::Differ(entries) => play_differ(stage, *entries, printed),
         Line::Dump => print_stage(printed, stage, &[]),
         scene => stage.set_scene(scene),
     }
@@ -199,6 +228,15 @@ fn assert_same_lines(ours: &str, printed: &str) {
     assert_eq!(ours.len(), printed.len());
 }
 
+/// The name of the call that a line makes, if it makes one.
+fn name_of(line: &Line) -> Option<&'static str> {
+    match line {
+        Line::Call(call) => Some(call_name(call)),
+        Line::Differ(_) => Some("differ"),
+        _ => None,
+    }
+}
+
 #[test]
 fn c_and_rust_play_alike() {
     let seed = episodes::seed();
@@ -214,12 +252,10 @@ fn c_and_rust_play_alike() {
         stage.large = episode.large;
         for (_, line) in &episode.lines {
             play_line(&mut stage, line, &mut printed);
-            if let Line::Call(call) = line {
-                called.insert(call_name(call));
-            }
+            called.extend(name_of(line));
         }
     }
-    assert_eq!(called.len(), 18, "every call is in the script: {called:?}");
+    assert_eq!(called.len(), 19, "every call is in the script: {called:?}");
     assert_same_lines(&printed, &played_by_c(&script_of(&episodes)));
 }
 
@@ -251,6 +287,7 @@ fn rust_type(name: &str) -> &str {
         "transput_result" => "CallResult",
         "transput_view" => "ViewPlace",
         "transput_wrote" => "Wrote",
+        "transput_differences" => "Differences",
         _ => panic!("the header has a new type, {name}"),
     }
 }

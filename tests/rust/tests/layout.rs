@@ -7,8 +7,8 @@ mod compile;
 use std::mem::{align_of, offset_of, size_of};
 use std::process::Command;
 
-use transput::declarations::{ViewPlace, Wrote};
-use transput::{Answer, CallResult, File, Given, Position, Refusal, Rights, Shape, Stop};
+use transput::declarations::{Differences, ViewPlace, Wrote};
+use transput::{Answer, CallResult, File, Given, Position, Refusal, Rights, Shape, Span, Stop};
 
 /// The size of the field that a function picks.
 fn field_size<Struct, Field>(_: fn(&Struct) -> &Field) -> usize {
@@ -38,6 +38,8 @@ fn structs() -> Vec<String> {
         struct_lines!("transput_result", CallResult, number stop given value events taken count end),
         struct_lines!("transput_view", ViewPlace, number marker from count),
         struct_lines!("transput_wrote", Wrote, number count),
+        struct_lines!("transput_span", Span, page line first last),
+        struct_lines!("transput_differences", Differences, number count),
     ]
     .concat()
 }

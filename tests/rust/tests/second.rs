@@ -8,10 +8,12 @@ mod episodes;
 
 use std::collections::BTreeMap;
 
-use episodes::{Episode, Stage};
+use episodes::{Episode, Side, Stage};
 use second::calls::CallResult as SecondResult;
 use second::replay::{call_name, Call, Line, Player};
-use transput::{Book, File, Given, Outcome, Position, Refusal, Stop, View};
+use second::side::Side as SecondSide;
+use second::spans::{differing_spans, Looked};
+use transput::{calls, Book, File, Given, Outcome, Position, Refusal, Span, Stop, View};
 
 /// Episodes that are played where nothing else is said.
 const EPISODES: u64 = 40_000;
@@ -26,7 +28,7 @@ struct Made {
 fn make_call(stage: &mut Stage, call: &Call) -> Made {
     let row = std::mem::take(&mut stage.row);
     let [page, line, number] = stage.numbers(call);
-    let (file, book) = (&mut stage.file, &mut stage.book);
+    let Side { file, book, .. } = &mut stage.first;
     let mut bytes = episodes::output_for(call);
     let outcome = match call {
         Call::Establish => file.establish(book),
@@ -47,7 +49,7 @@ fn make_call(stage: &mut Stage, call: &Call) -> Made {
         Call::SetCharNumber(_) => file.set_character_number(book, number, &row),
         Call::View(_, _, marker) => return make_view(file, book, page, line, marker),
         Call::Whole(value, width, _) => {
-            outcome_of_whole(book, transput::whole(*value, *width, &mut bytes))
+            outcome_of_count(book, transput::whole(*value, *width, &mut bytes))
         }
     };
     Made { outcome, bytes }
@@ -68,17 +70,94 @@ fn make_view(file: &File, book: &Book, page: usize, line: usize, marker: &[u8]) 
     }
 }
 
-/// The outcome of whole, which has only a number and a count.
-fn outcome_of_whole(book: &Book, wrote: Result<usize, Refusal>) -> Outcome {
+/// The outcome of whole and of a look at two books, which have only a number and a count.
+fn outcome_of_count(book: &Book, counted: Result<usize, Refusal>) -> Outcome {
     Outcome {
-        refusal: wrote.err(),
+        refusal: counted.err(),
         stop: None,
         given: Given::Nothing,
         events: 0,
         taken: 0,
-        count: wrote.unwrap_or(0),
+        count: counted.unwrap_or(0),
         end: book.end,
     }
+}
+
+/// Looks where the two books differ, through the wrapper. The list has room for so many spans, and its bytes are all ee.
+fn make_differ(stage: &mut Stage, entries: usize) -> Made {
+    stage.row.clear();
+    let (one, other) = (&stage.first, &stage.other);
+    let mut list = vec![span_of([0xee; 4]); entries];
+    let counted = one
+        .file
+        .differ(&one.book, &other.file, &other.book, &mut list);
+    Made {
+        outcome: outcome_of_count(&one.book, counted),
+        bytes: calls::bytes_of(&mut list).to_vec(),
+    }
+}
+
+fn span_of([page, line, first, last]: [u8; 4]) -> Span {
+    Span {
+        page,
+        line,
+        first,
+        last,
+    }
+}
+
+/// Whether the same look with a list of bytes, often no whole number of spans long, gives and writes the same and leaves the
+/// bytes at its end.
+fn ragged_list_fits(stage: &Stage, entries: usize, made: &Made) -> bool {
+    let (one, other) = (&stage.first, &stage.other);
+    let mut list = episodes::list_for(entries);
+    let listed = calls::differ(&one.file, &one.book, &other.file, &other.book, &mut list);
+    let (spans, rest) = list.split_at(4 * entries);
+    (Refusal::of_number(listed.number), listed.count) == (made.outcome.refusal, made.outcome.count)
+        && spans == made.bytes
+        && rest.iter().all(|&byte| byte == 0xee)
+}
+
+/// The record of a side of the second implementation in the wrapper's form.
+fn file_of(stage: &Stage, side: &SecondSide) -> File {
+    let file = &side.file;
+    File {
+        opened: file.opened,
+        reading: file.read_mood,
+        writing: file.write_mood,
+        position: stage.position(file.position),
+        shape: stage.shape(file.shape),
+        rights: episodes::rights_of(file.rights),
+    }
+}
+
+/// The book of a side of the second implementation in the wrapper's form.
+fn book_of(stage: &Stage, side: &SecondSide) -> Book {
+    let (text, lines, pages) = side.lent;
+    Book {
+        text: side.text[..text].to_vec(),
+        lines: side.line_lengths[..lines].to_vec(),
+        pages: side.page_lengths[..pages].to_vec(),
+        end: stage.position(side.logical_end),
+    }
+}
+
+/// Where a record or a book is not the second implementation's, what it is.
+fn difference_of_sides(stage: &Stage, side: &Side, second: &SecondSide) -> Option<String> {
+    let (file, book) = (file_of(stage, second), book_of(stage, second));
+    if side.file != file {
+        Some(format!("record {:?}, second {file:?}", side.file))
+    } else if side.book != book {
+        Some(format!("book {:?}, second {book:?}", side.book))
+    } else {
+        None
+    }
+}
+
+/// Where what was handed back is not the second implementation's, what it is.
+fn difference_of_results(made: &Made, result: &SecondResult) -> Option<String> {
+    let ours = second_form(made);
+    (ours != *result).then(|| format!("result {ours:?}, second {result:?}"))
 }
 
 /// What was handed back in the form of the second implementation.
@@ -126,46 +205,16 @@ impl Pair {
         side.lend(|file, book| second::replay::make_call(call, file, book, row))
     }
 
-    /// The record of the second implementation in the wrapper's form.
-    fn second_file(&self) -> File {
-        let file = &self.second.first.file;
-        File {
-            opened: file.opened,
-            reading: file.read_mood,
-            writing: file.write_mood,
-            position: self.stage.position(file.position),
-            shape: self.stage.shape(file.shape),
-            rights: episodes::rights_of(file.rights),
-        }
-    }
-
-    /// The book of the second implementation in the wrapper's form.
-    fn second_book(&self) -> Book {
-        let side = &self.second.first;
-        let (text, lines, pages) = side.lent;
-        Book {
-            text: side.text[..text].to_vec(),
-            lines: side.line_lengths[..lines].to_vec(),
-            pages: side.page_lengths[..pages].to_vec(),
-            end: self.stage.position(side.logical_end),
-        }
-    }
-
-    /// Makes a call on both sides and compares all; gives the result and, where something differs, what it is.
+    /// Makes a call by both and compares all; gives the result and, where something differs, what it is.
     fn make(&mut self, call: &Call, row: &[u32]) -> (SecondResult, Option<String>) {
         let made = make_call(&mut self.stage, call);
         let result = self.make_second(call, row);
-        let (file, book) = (self.second_file(), self.second_book());
-        let difference = if second_form(&made) != result {
-            Some(format!(
-                "result {:?}, second {result:?}",
-                second_form(&made)
-            ))
-        } else if self.stage.file != file {
-            Some(format!("record {:?}, second {file:?}", self.stage.file))
-        } else if self.stage.book != book {
-            Some(format!("book {:?}, second {book:?}", self.stage.book))
-        } else if made.outcome.end != self.stage.book.end {
+        let side = &self.stage.first;
+        let difference = difference_of_results(&made, &result)
+            .or_else(|| difference_of_sides(&self.stage, side, &self.second.first));
+        let difference = if difference.is_some() {
+            difference
+        } else if made.outcome.end != side.book.end {
             Some(format!("the end handed back is {:?}", made.outcome.end))
         } else if !given_fits(call, made.outcome.given) {
             Some(format!("{:?} was given", made.outcome.given))
@@ -174,10 +223,57 @@ impl Pair {
         };
         (result, difference)
     }
+
+    /// All spans by the second implementation. Both books must be good.
+    fn second_spans(&mut self) -> Vec<Span> {
+        let Player { first, second, .. } = &mut self.second;
+        first.lend(|file, book| {
+            let one = Looked { file, book };
+            second.lend(|file, book| {
+                let spans = differing_spans(one, Looked { file, book });
+                spans.iter().map(|span| span_of(span.bytes())).collect()
+            })
+        })
+    }
+
+    /// Where the count or all spans, asked for without a list, are not the second implementation's, what they are. The number
+    /// is what it gave with a list.
+    fn difference_of_spans(&mut self, number: u32) -> Option<String> {
+        let number = u8::try_from(number).expect("a number of the papers");
+        let expected = match Refusal::of_number(number) {
+            None | Some(Refusal::OutputTooShort) => Ok(self.second_spans()),
+            Some(refusal) => Err(refusal),
+        };
+        let (one, other) = (&self.stage.first, &self.stage.other);
+        let spans = one.file.differences(&one.book, &other.file, &other.book);
+        let count = one
+            .file
+            .difference_count(&one.book, &other.file, &other.book);
+        if spans != expected {
+            return Some(format!("spans {spans:?}, second {expected:?}"));
+        }
+        (count != spans.map(|spans| spans.len())).then(|| format!("count {count:?}"))
+    }
+
+    /// Looks where the two books differ by both and compares all, as for a call.
+    fn differ(&mut self, entries: usize) -> (SecondResult, Option<String>) {
+        let made = make_differ(&mut self.stage, entries);
+        let Player { first, second, .. } = &mut self.second;
+        let result = second::replay::make_differ(entries, first, second);
+        let of_spans = self.difference_of_spans(result.number);
+        let (stage, player) = (&self.stage, &self.second);
+        let ragged = !ragged_list_fits(stage, entries, &made);
+        let difference = difference_of_results(&made, &result)
+            .or(of_spans)
+            .or_else(|| difference_of_sides(stage, &stage.first, &player.first))
+            .or_else(|| difference_of_sides(stage, &stage.other, &player.second))
+            .or_else(|| ragged.then(|| "a list that is a little longer".to_string()));
+        (result, difference)
+    }
 }
 
-/// How often each call gave each number, each stop came, each kind of answer was taken, a call took several answers, and
-/// something of the book was lent empty.
+/// How often each call gave each number, each stop came, each kind of answer was taken, a call took several answers,
+/// something of the book was lent empty, spans were listed, and a span was an empty line.
 #[derive(Default)]
 struct Counts {
     numbers: BTreeMap<(&'static str, u32), u64>,
@@ -185,6 +281,8 @@ struct Counts {
     kinds: [u64; 9],
     several_answers: u64,
     empty: u64,
+    listed: u64,
+    empty_spans: u64,
 }
 
 impl Counts {
@@ -200,8 +298,24 @@ impl Counts {
         self.empty += u64::from(parts.iter().any(|part| part.is_empty()));
     }
 
+    fn add_differ(&mut self, result: &SecondResult) {
+        *self.numbers.entry(("differ", result.number)).or_default() += 1;
+        let spans = result.bytes.chunks(4).take(result.count);
+        self.empty_spans += spans.filter(|span| span[3] == 0).count() as u64;
+        self.listed += u64::from(result.count > 0);
+    }
+
     fn calls(&self) -> u64 {
         self.numbers.values().sum()
+    }
+
+    /// The calls that compared two books.
+    fn looks(&self) -> u64 {
+        let numbers = self.numbers.iter();
+        numbers
+            .filter(|(key, _)| key.0 == "differ")
+            .map(|(_, count)| count)
+            .sum()
     }
 
     /// Every call was done and refused, and all else that is counted came.
@@ -211,7 +325,9 @@ impl Counts {
             assert!(keys().any(|key| key.1 == number), "number {number}");
         }
         let done = keys().filter(|key| key.1 == 0).count();
-        assert_eq!(done, 18, "calls that were done");
+        assert_eq!(done, 19, "calls that were done");
+        let of_differ = keys().filter(|key| key.0 == "differ").map(|key| key.1);
+        assert_eq!(of_differ.collect::<Vec<u32>>(), [0, 1, 3, 12]);
         for name in keys().map(|key| key.0) {
             assert!(
                 keys().any(|key| key.0 == name && key.1 > 0),
@@ -229,6 +345,7 @@ impl Counts {
             self.kinds
         );
         assert!(self.several_answers > 0 && self.empty > 0);
+        assert!(self.listed > 0 && self.empty_spans > 0);
     }
 }
 
@@ -239,17 +356,31 @@ fn script_up_to(episode: &Episode, index: usize) -> String {
     texts.collect::<Vec<String>>().join("\n")
 }
 
+/// Plays a line on both and counts what it did; gives what differs, if anything does.
+fn play_line(pair: &mut Pair, text: &[u8], line: &Line, counts: &mut Counts) -> Option<String> {
+    match line {
+        Line::Call(call) => {
+            let row = pair.stage.row.clone();
+            let (result, difference) = pair.make(call, &row);
+            counts.add(call, &row, &pair.stage.first.book, &result);
+            difference
+        }
+        Line::Differ(entries) => {
+            let (result, difference) = pair.differ(*entries);
+            counts.add_differ(&result);
+            difference
+        }
+        scene => {
+            pair.set_scene(text, scene);
+            None
+        }
+    }
+}
+
 fn play_episode(pair: &mut Pair, episode: &Episode, counts: &mut Counts) {
     pair.stage.large = episode.large;
     for (index, (text, line)) in episode.lines.iter().enumerate() {
-        let Line::Call(call) = line else {
-            pair.set_scene(text, line);
-            continue;
-        };
-        let row = pair.stage.row.clone();
-        let (result, difference) = pair.make(call, &row);
-        counts.add(call, &row, &pair.stage.book, &result);
-        if let Some(difference) = difference {
+        if let Some(difference) = play_line(pair, text, line, counts) {
             let script = script_up_to(episode, index);
             let large = episode.large;
             panic!("{difference}\n65535 stands for {large} in the script:\n{script}");
@@ -278,9 +409,9 @@ fn the_archive_and_the_second_implementation_agree() {
         let episode = episodes::make(seed, number, &mut maker);
         play_episode(&mut pair, &episode, &mut counts);
     }
-    let calls = counts.calls();
+    let (calls, looks) = (counts.calls(), counts.looks());
     second::say(&format!(
-        "second: {episodes} episodes, {calls} calls, 0 differences"
+        "second: {episodes} episodes, {calls} calls, {looks} of them on two books, 0 differences"
     ));
     if episodes >= EPISODES {
         counts.assert_covered();

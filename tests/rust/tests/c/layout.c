@@ -56,6 +56,17 @@ static void results(void) {
     FIELD(transput_wrote, count);
 }
 
+static void comparisons(void) {
+    STRUCT(transput_span);
+    FIELD(transput_span, page);
+    FIELD(transput_span, line);
+    FIELD(transput_span, first);
+    FIELD(transput_span, last);
+    STRUCT(transput_differences);
+    FIELD(transput_differences, number);
+    FIELD(transput_differences, count);
+}
+
 static void numbers(void) {
     CONSTANT(TRANSPUT_DONE);
     CONSTANT(TRANSPUT_NOT_OPEN);
@@ -120,6 +131,7 @@ int main(void) {
     positions_and_shapes();
     records();
     results();
+    comparisons();
     numbers();
     stops_and_given();
     kinds();

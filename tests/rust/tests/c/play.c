@@ -2,8 +2,8 @@
  * result and of the record, and the whole book.
  *
  * The script is of the format that README.md gives for replay, without bad lines and comments. A line `large N` says which number
- * 65535 stands for from there on. `view` makes both calls of a view. What is empty is lent with a null pointer. A line that cannot
- * be read ends the program with status 1.
+ * 65535 stands for from there on. `view` makes both calls of a view, and `differ` both calls that compare two books. What is empty
+ * is lent with a null pointer. A line that cannot be read ends the program with status 1.
  */
 #include <inttypes.h>
 #include <stdio.h>
@@ -13,25 +13,37 @@
 #include "transput.h"
 
 enum { TEXT_ROOM = 70000, LINES_ROOM = 1100, PAGES_ROOM = 300, ROW_ROOM = 80, OUTPUT_ROOM = 4096, LONGEST_LINE = 140000 };
+enum { ENTRIES_ROOM = 4096, LIST_ROOM = 4 * ENTRIES_ROOM + 3 };
 
-/* The record, the book, the answers for the next call, and what the call at hand is lent beside them. */
-static struct {
+/* A record and a book. All lines and calls work on the first side; a swap exchanges the two. */
+typedef struct side {
     transput_file file;
     transput_position end;
     uint8_t text[TEXT_ROOM], lines[LINES_ROOM], pages[PAGES_ROOM];
     size_t text_length, lines_length, pages_length;
+} side;
+
+static side sides[2];
+static side *first = &sides[0];
+static side *other = &sides[1];
+
+/* The answers for the next call, and what the call at hand is lent beside them. */
+static struct {
     uint32_t row[ROW_ROOM];
     size_t row_length;
-    uint8_t bytes[TEXT_ROOM], output[OUTPUT_ROOM];
-    size_t bytes_length, output_length;
+    uint8_t bytes[TEXT_ROOM], output[OUTPUT_ROOM], list[LIST_ROOM];
+    size_t bytes_length, output_length, list_length;
     size_t large;
 } stage;
 
-/* A part of the stage and its length, as two arguments. */
-#define LENT(part) (stage.part##_length == 0 ? NULL : stage.part), stage.part##_length
-#define RECORD &stage.file, stage.end
-#define BOOK LENT(text), LENT(lines), LENT(pages)
+/* A part of a side or of the stage and its length, as two arguments. */
+#define PART(of, part) ((of)->part##_length == 0 ? NULL : (of)->part), (of)->part##_length
+#define LENT(part) PART(&stage, part)
+#define BOOK_OF(of) PART(of, text), PART(of, lines), PART(of, pages)
+#define RECORD &first->file, first->end
+#define BOOK BOOK_OF(first)
 #define BOOK_AND_ROW BOOK, LENT(row)
+#define BOTH &first->file, &other->file, first->end, BOOK_OF(first), other->end, BOOK_OF(other)
 
 /* ---- reading the words of a line ---- */
 
@@ -116,16 +128,21 @@ static void print_position(const char *name, transput_position position) {
     printf("%s %zu %zu %zu\n", name, position.page, position.line, position.character);
 }
 
-static void print_stage(void) {
-    const transput_file *file = &stage.file;
+static void print_side(const side *shown) {
+    const transput_file *file = &shown->file;
     printf("record %d %d %d\n", file->opened, file->reading, file->writing);
     print_position("position", file->position);
     printf("shape %zu %zu %zu\n", file->shape.pages, file->shape.lines, file->shape.characters);
     printf("rights %d %d %d %d %d\n", file->rights.get, file->rights.put, file->rights.set, file->rights.reset,
         file->rights.compress);
-    print_bytes("text", stage.text, stage.text_length);
-    print_bytes("lines", stage.lines, stage.lines_length);
-    print_bytes("pages", stage.pages, stage.pages_length);
+    print_position("book end", shown->end);
+    print_bytes("text", shown->text, shown->text_length);
+    print_bytes("lines", shown->lines, shown->lines_length);
+    print_bytes("pages", shown->pages, shown->pages_length);
+}
+
+static void print_stage(void) {
+    print_side(first);
     print_bytes("output", stage.output, stage.output_length);
 }
 
@@ -135,6 +152,10 @@ static void print_result(transput_result result) {
     print_position("end", result.end);
 }
 
+static void print_differences(const char *name, transput_differences differences) {
+    printf("%s %d %zu\n", name, differences.number, differences.count);
+}
+
 /* ---- the lines that set the scene ---- */
 
 static void scene_large(void) {
@@ -142,20 +163,20 @@ static void scene_large(void) {
 }
 
 static void scene_shape(void) {
-    stage.file.shape.pages = next_number();
-    stage.file.shape.lines = next_number();
-    stage.file.shape.characters = next_number();
+    first->file.shape.pages = next_number();
+    first->file.shape.lines = next_number();
+    first->file.shape.characters = next_number();
 }
 
 static void scene_lend(void) {
-    stage.text_length = next_size(TEXT_ROOM);
-    stage.lines_length = next_size(LINES_ROOM);
-    stage.pages_length = next_size(PAGES_ROOM);
+    first->text_length = next_size(TEXT_ROOM);
+    first->lines_length = next_size(LINES_ROOM);
+    first->pages_length = next_size(PAGES_ROOM);
 }
 
 static void scene_rights(void) {
     const char *word = next_word();
-    transput_rights *rights = &stage.file.rights;
+    transput_rights *rights = &first->file.rights;
     rights->get = strchr(word, 'g') != NULL;
     rights->put = strchr(word, 'p') != NULL;
     rights->set = strchr(word, 's') != NULL;
@@ -164,32 +185,32 @@ static void scene_rights(void) {
 }
 
 static void scene_record(void) {
-    stage.file.opened = next_size(1) == 1;
-    stage.file.reading = next_size(1) == 1;
-    stage.file.writing = next_size(1) == 1;
-    stage.file.position = next_position();
+    first->file.opened = next_size(1) == 1;
+    first->file.reading = next_size(1) == 1;
+    first->file.writing = next_size(1) == 1;
+    first->file.position = next_position();
 }
 
 static void scene_end(void) {
-    stage.end = next_position();
+    first->end = next_position();
 }
 
 static void scene_fill(void) {
     uint8_t byte = 0;
     next_bytes(&byte, 1);
-    memset(stage.text, byte, TEXT_ROOM);
+    memset(first->text, byte, TEXT_ROOM);
 }
 
 static void scene_text(void) {
-    next_bytes_at(stage.text, TEXT_ROOM);
+    next_bytes_at(first->text, TEXT_ROOM);
 }
 
 static void scene_lines(void) {
-    next_bytes_at(stage.lines, LINES_ROOM);
+    next_bytes_at(first->lines, LINES_ROOM);
 }
 
 static void scene_pages(void) {
-    next_bytes_at(stage.pages, PAGES_ROOM);
+    next_bytes_at(first->pages, PAGES_ROOM);
 }
 
 static void scene_row(void) {
@@ -204,11 +225,17 @@ static void scene_row(void) {
     }
 }
 
+static void scene_swap(void) {
+    side *was_first = first;
+    first = other;
+    other = was_first;
+}
+
 /* ---- the calls ---- */
 
 /* Takes the end that a call handed back, and prints all. */
 static void end_call(transput_result result) {
-    stage.end = result.end;
+    first->end = result.end;
     print_result(result);
     print_stage();
 }
@@ -303,6 +330,22 @@ static void call_view(void) {
     end_call(transput_view_number(RECORD, page, line, BOOK));
 }
 
+/* A list full of ee, with up to three bytes more than its entries need. */
+static void lend_list(void) {
+    size_t entries = next_size(ENTRIES_ROOM);
+    stage.list_length = 4 * entries + entries % 4;
+    memset(stage.list, 0xee, stage.list_length);
+}
+
+static void call_differ(void) {
+    lend_list();
+    print_differences("listed", transput_differ(BOTH, LENT(list)));
+    print_differences("counted", transput_difference_count(BOTH));
+    print_bytes("list", stage.list, stage.list_length);
+    print_side(first);
+    print_side(other);
+}
+
 static void call_whole(void) {
     int32_t value = (int32_t)next_integer();
     int32_t width = (int32_t)next_integer();
@@ -331,6 +374,7 @@ static const struct command {
     {"lines", scene_lines, false},
     {"pages", scene_pages, false},
     {"row", scene_row, false},
+    {"swap", scene_swap, false},
     {"dump", print_stage, false},
     {"establish", call_establish, true},
     {"open", call_open, true},
@@ -349,6 +393,7 @@ static const struct command {
     {"set", call_set, true},
     {"setc", call_set_character_number, true},
     {"view", call_view, true},
+    {"differ", call_differ, true},
     {"whole", call_whole, true},
 };
 

@@ -40,10 +40,10 @@ pub struct Episode {
     pub large: usize,
 }
 
-/// Makes an episode with one book, since the stage has one. The player only serves to make it, and may be used again.
+/// Makes an episode, about every other one with two books. The player only serves to make it, and may be used again.
 pub fn make(seed: u64, number: u64, player: &mut Player) -> Episode {
     let random = Random::for_episode(seed, number);
-    let script = make_episode(random, Books::One, player, &mut Vec::new());
+    let script = make_episode(random, Books::Two, player, &mut Vec::new());
     let short = script.into_iter().filter(|line| line.len() <= LONGEST_LINE);
     let lines = short.filter_map(|text| read_line(&text).map(|line| (text, line)));
     Episode {
@@ -52,14 +52,19 @@ pub fn make(seed: u64, number: u64, player: &mut Player) -> Episode {
     }
 }
 
-/// A record, a book and the answers for the next call, as a script sets them. What lies past the lent parts of the book is
-/// kept, for a line that lends more.
-pub struct Stage {
+/// A record and a book. What lies past the lent parts of the book is kept, for a line that lends more.
+pub struct Side {
     pub file: File,
     pub book: Book,
+    room: [Vec<u8>; 3],
+}
+
+/// Two sides and the answers for the next call, as a script sets them. All lines and calls work on the first side.
+pub struct Stage {
+    pub first: Side,
+    pub other: Side,
     pub row: Vec<u32>,
     pub large: usize,
-    room: [Vec<u8>; 3],
 }
 
 /// Writes the lent part back, changes the room, and lends a part of it again.
@@ -77,20 +82,30 @@ fn change(room: &mut [u8], lent: &mut Vec<u8>, index: usize, bytes: &[u8]) {
     });
 }
 
-impl Stage {
-    /// A stage on which everything is to be set.
-    pub fn new() -> Stage {
+impl Side {
+    /// A side on which everything is to be set.
+    fn new() -> Side {
         let shape = Shape {
             pages: 0,
             lines: 0,
             characters: 0,
         };
-        Stage {
+        Side {
             file: File::new(shape, Rights::default()),
             book: Book::new(shape),
+            room: [vec![0; TEXT_ROOM], vec![0; LINES_ROOM], vec![0; PAGES_ROOM]],
+        }
+    }
+}
+
+impl Stage {
+    /// A stage on which everything is to be set.
+    pub fn new() -> Stage {
+        Stage {
+            first: Side::new(),
+            other: Side::new(),
             row: Vec::new(),
             large: 0,
-            room: [vec![0; TEXT_ROOM], vec![0; LINES_ROOM], vec![0; PAGES_ROOM]],
         }
     }
 
@@ -132,36 +147,36 @@ impl Stage {
         numbers.map(|number| self.number(number))
     }
 
-    /// A line that sets the scene.
+    /// A line that sets the scene, or exchanges the sides.
     pub fn set_scene(&mut self, line: &Line) {
-        let [text, lines, pages] = &mut self.room;
-        let book = &mut self.book;
+        let Side { file, book, room } = &mut self.first;
+        let [text, lines, pages] = room;
         match line {
-            Line::Shape(shape) => self.file.shape = self.shape(*shape),
+            Line::Shape(shape) => self.first.file.shape = self.shape(*shape),
             Line::Lend(text_size, lines_size, pages_size) => {
                 lend_again(text, &mut book.text, *text_size, |_| ());
                 lend_again(lines, &mut book.lines, *lines_size, |_| ());
                 lend_again(pages, &mut book.pages, *pages_size, |_| ());
             }
-            Line::Rights(rights) => self.file.rights = rights_of(*rights),
+            Line::Rights(rights) => file.rights = rights_of(*rights),
             Line::Record([opened, reading, writing], position) => {
-                let position = self.position(*position);
                 let (opened, reading, writing) = (*opened, *reading, *writing);
-                self.file = File {
+                self.first.file = File {
                     opened,
                     reading,
                     writing,
-                    position,
-                    ..self.file
+                    position: self.position(*position),
+                    ..self.first.file
                 };
             }
-            Line::End(end) => self.book.end = self.position(*end),
+            Line::End(end) => self.first.book.end = self.position(*end),
             Line::Fill(byte) => change(text, &mut book.text, 0, &[*byte; TEXT_ROOM]),
             Line::Text(index, bytes) => change(text, &mut book.text, *index, bytes),
             Line::Lines(index, bytes) => change(lines, &mut book.lines, *index, bytes),
             Line::Pages(index, bytes) => change(pages, &mut book.pages, *index, bytes),
             Line::Row(row) => self.row = row.clone(),
-            Line::Swap | Line::Dump | Line::Call(_) | Line::Differ(_) => (),
+            Line::Swap => std::mem::swap(&mut self.first, &mut self.other),
+            Line::Dump | Line::Call(_) | Line::Differ(_) => (),
         }
     }
 }
@@ -172,6 +187,11 @@ pub fn output_for(call: &Call) -> Vec<u8> {
         Call::GetString(size, _) | Call::Whole(_, _, size) => vec![0xee; *size],
         _ => Vec::new(),
     }
+}
+
+/// A list for so many spans, full of ee. It has up to three bytes more than they need, since any length can be lent.
+pub fn list_for(entries: usize) -> Vec<u8> {
+    vec![0xee; 4 * entries + entries % 4]
 }
 
 /// The rights of a script.
