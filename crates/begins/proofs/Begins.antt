@@ -12,13 +12,13 @@ use borrow.Author.Tests.{eq-eqb, ne-eqb, eqb-true}
 use Rattle.rules.specs.declared.Position.{Position}
 use Rattle.rules.specs.declared.File.{File}
 use Rattle.rules.specs.declared.Run.{Run}
-use Rattle.rules.specs.declared.Ending.{Ending}
 use Rattle.rules.specs.declared.Outcome.{Outcome}
+use Rattle.rules.specs.declared.Status.{Status}
 use Rattle.rules.specs.declared.Given.{Given}
 use Rattle.rules.specs.declared.Reply.{Reply}
 use Rattle.rules.specs.declared.Given.the-variants.{Nothing, Character, Integer}
 use Rattle.rules.specs.Book.{choose, State, state, onRun, runWith, inMood, rightsOf, rowFits, allFits}
-use Rattle.rules.specs.Step.{Out, done, ends, Step, _>>=_, _>>_, andThen, refuse, pure, refusal, finished, need, size, change, test, branch, halt, again, moodOn, going, outcomeGiving, outcomeWith, outcome, doneBy, refusedBy}
+use Rattle.rules.specs.Step.{statusOf, endingBy, Out, done, ends, Step, _>>=_, _>>_, andThen, refuse, pure, refusal, finished, need, size, change, test, branch, halt, again, moodOn, going, outcomeGiving, outcomeWith, outcome, doneBy, refusedBy}
 use Rattle.rules.specs.Steps.{Action}
 use Rattle.rules.specs.Ready.{Ready, Valid}
 use Rattle.rules.specs.Calls.{Value, nothing, aCharacter, anInteger, After, begin, needRow, turnable, putting, getting, leave, after}
@@ -111,16 +111,16 @@ checked-fits n s e = by (s .run .file .opened) (allFits n s) e
 
 -- the outcome of a step that leaves the lengths and the characters as they are
 abbrev pub Leads : {A : Type 0} → Out A → Outcome → State → List ℕ → Step A → Type 0
-Leads x o s t rest = x ≡ choose (going (o .ending)) (rest (onRun s (o .run)) t) (ends (o .ending) (onRun s (o .run)) t)
+Leads x o s t rest = x ≡ choose (going (o .status)) (rest (onRun s (o .run)) t) (ends (endingBy o) (onRun s (o .run)) t)
 
 module _ {A : Type 0} (row : List ℕ) (s : State) (t : List ℕ) where
   -- a step after the tests
-  pub following-leads : (first rest : Step A) (o : Outcome) → first s t ≡ choose (going (o .ending)) (rest (onRun s (o .run)) t) (ends (o .ending) (onRun s (o .run)) t)
+  pub following-leads : (first rest : Step A) (o : Outcome) → first s t ≡ choose (going (o .status)) (rest (onRun s (o .run)) t) (ends (endingBy o) (onRun s (o .run)) t)
       → Leads (begin (needRow row >> first) s t) (following (s .run) (beforeAsking row (length t) s) o) s t rest
   following-leads first rest o h = asked-is first s t row ∙ by (beforeAsking row (length t) s) (eqb (beforeAsking row (length t) s) 0) refl
     where
       by : (k : ℕ) (b : Bool) → eqb k 0 ≡ b → choose b (first s t) (ends (refusal k) s t)
-          ≡ choose (going (choose b o (refusedBy (s .run) k) .ending)) (rest (onRun s (choose b o (refusedBy (s .run) k) .run)) t) (ends (choose b o (refusedBy (s .run) k) .ending) (onRun s (choose b o (refusedBy (s .run) k) .run)) t)
+          ≡ choose (going (choose b o (refusedBy (s .run) k) .status)) (rest (onRun s (choose b o (refusedBy (s .run) k) .run)) t) (ends (endingBy (choose b o (refusedBy (s .run) k))) (onRun s (choose b o (refusedBy (s .run) k) .run)) t)
       by k true e = h
       by k false e = rw e
 
@@ -143,14 +143,14 @@ module _ {A : Type 0} (row : List ℕ) (s : State) (t : List ℕ) where
       ∙ ap (λ (x : Out A). choose (turnable reading s) x (ends (refusal 5) s t)) (change-then _ (λ _. rest) s t))
 
   turned-leads : (reading right : Bool) (rest : Step A) (x : Out A) → right ≡ mayDo reading (rightsOf s) → x ≡ choose right (choose (turnable reading s) (rest (onRun s (inMood (s .run) reading)) t) (ends (refusal 5) s t)) (ends (refusal 4) s t)
-      → x ≡ choose (going (turnedBy reading (s .run) .ending)) (rest (onRun s (turnedBy reading (s .run) .run)) t) (ends (turnedBy reading (s .run) .ending) (onRun s (turnedBy reading (s .run) .run)) t)
+      → x ≡ choose (going (turnedBy reading (s .run) .status)) (rest (onRun s (turnedBy reading (s .run) .run)) t) (ends (endingBy (turnedBy reading (s .run))) (onRun s (turnedBy reading (s .run) .run)) t)
   unfolding turnable
   turned-leads reading right rest x e h = h ∙ ap (λ (b : Bool). choose b (choose (turnable reading s) (rest (onRun s (inMood (s .run) reading)) t) (ends (refusal 5) s t)) (ends (refusal 4) s t)) e ∙ by (mayDo reading (rightsOf s)) (turnableBy reading (s .run))
     where
       by : (p q : Bool) → choose p (choose q (rest (onRun s (inMood (s .run) reading)) t) (ends (refusal 5) s t)) (ends (refusal 4) s t)
-          ≡ choose (going (choose p (choose q (doneBy (inMood (s .run) reading)) (refusedBy (s .run) 5)) (refusedBy (s .run) 4) .ending))
+          ≡ choose (going (choose p (choose q (doneBy (inMood (s .run) reading)) (refusedBy (s .run) 5)) (refusedBy (s .run) 4) .status))
           (rest (onRun s (choose p (choose q (doneBy (inMood (s .run) reading)) (refusedBy (s .run) 5)) (refusedBy (s .run) 4) .run)) t)
-          (ends (choose p (choose q (doneBy (inMood (s .run) reading)) (refusedBy (s .run) 5)) (refusedBy (s .run) 4) .ending) (onRun s (choose p (choose q (doneBy (inMood (s .run) reading)) (refusedBy (s .run) 5)) (refusedBy (s .run) 4) .run)) t)
+          (ends (endingBy (choose p (choose q (doneBy (inMood (s .run) reading)) (refusedBy (s .run) 5)) (refusedBy (s .run) 4))) (onRun s (choose p (choose q (doneBy (inMood (s .run) reading)) (refusedBy (s .run) 5)) (refusedBy (s .run) 4) .run)) t)
       by true true = refl
       by true false = refl
       by false q = refl
@@ -166,8 +166,8 @@ module _ {A : Type 0} (row : List ℕ) (s : State) (t : List ℕ) where
   mood-leads rest = following-leads (moodOn >>= rest) (λ u. rest (s .run .file .reading) u) (choose (s .run .file .reading || s .run .file .writing) (doneBy (s .run)) (refusedBy (s .run) 5)) (mood-is ∙ by (s .run .file .reading) (s .run .file .writing))
     where
       by : (p q : Bool) → choose p (rest true s t) (choose q (rest false s t) (ends (refusal 5) s t))
-          ≡ choose (going (choose (p || q) (doneBy (s .run)) (refusedBy (s .run) 5) .ending)) (rest p (onRun s (choose (p || q) (doneBy (s .run)) (refusedBy (s .run) 5) .run)) t)
-          (ends (choose (p || q) (doneBy (s .run)) (refusedBy (s .run) 5) .ending) (onRun s (choose (p || q) (doneBy (s .run)) (refusedBy (s .run) 5) .run)) t)
+          ≡ choose (going (choose (p || q) (doneBy (s .run)) (refusedBy (s .run) 5) .status)) (rest p (onRun s (choose (p || q) (doneBy (s .run)) (refusedBy (s .run) 5) .run)) t)
+          (ends (endingBy (choose (p || q) (doneBy (s .run)) (refusedBy (s .run) 5))) (onRun s (choose (p || q) (doneBy (s .run)) (refusedBy (s .run) 5) .run)) t)
       by true q = refl
       by false true = refl
       by false false = refl
@@ -179,8 +179,8 @@ module _ {A : Type 0} (row : List ℕ) (s : State) (t : List ℕ) where
   pub set-leads : (rest : Step A) → Leads (begin (needRow row >> (need 4 (λ s. rightsOf s .«set») >> rest)) s t) (maySetBy row (length t) s) s t rest
   set-leads rest = following-leads (need 4 (λ s. rightsOf s .«set») >> rest) rest (choose (rightsOf s .«set») (doneBy (s .run)) (refusedBy (s .run) 4)) (needed 4 (λ s. rightsOf s .«set») rest ∙ by (rightsOf s .«set»))
     where
-      by : (p : Bool) → choose p (rest s t) (ends (refusal 4) s t) ≡ choose (going (choose p (doneBy (s .run)) (refusedBy (s .run) 4) .ending)) (rest (onRun s (choose p (doneBy (s .run)) (refusedBy (s .run) 4) .run)) t)
-          (ends (choose p (doneBy (s .run)) (refusedBy (s .run) 4) .ending) (onRun s (choose p (doneBy (s .run)) (refusedBy (s .run) 4) .run)) t)
+      by : (p : Bool) → choose p (rest s t) (ends (refusal 4) s t) ≡ choose (going (choose p (doneBy (s .run)) (refusedBy (s .run) 4) .status)) (rest (onRun s (choose p (doneBy (s .run)) (refusedBy (s .run) 4) .run)) t)
+          (ends (endingBy (choose p (doneBy (s .run)) (refusedBy (s .run) 4))) (onRun s (choose p (doneBy (s .run)) (refusedBy (s .run) 4) .run)) t)
       by true = refl
       by false = refl
 
@@ -191,28 +191,28 @@ module _ {A : Type 0} (row : List ℕ) (s : State) (t : List ℕ) where
   pub not-lowest-is : (h : Bool) (rest : Step A) → h ≡ true → begin (needRow row >> (need 9 (λ _. h) >> rest)) s t ≡ begin (needRow row >> rest) s t
   not-lowest-is h rest e = asked-is (need 9 (λ _. h) >> rest) s t row ∙ ap (λ (x : Out A). choose (eqb (beforeAsking row (length t) s) 0) x (ends (refusal (beforeAsking row (length t) s)) s t)) (need-true 9 (λ _. h) (λ _. rest) s t e) ∙ sym (asked-is rest s t row)
 
-pub lowest-halts : (row : List ℕ) (n : ℕ) (s : State) → going (lowestBy row n s .ending) ≡ false
+pub lowest-halts : (row : List ℕ) (n : ℕ) (s : State) → going (lowestBy row n s .status) ≡ false
 lowest-halts row n s = by (beforeAsking row n s) (eqb (beforeAsking row n s) 0) refl
   where
-    by : (k : ℕ) (b : Bool) → eqb k 0 ≡ b → going (choose b (refusedBy (s .run) 9) (refusedBy (s .run) k) .ending) ≡ false
+    by : (k : ℕ) (b : Bool) → eqb k 0 ≡ b → going (choose b (refusedBy (s .run) 9) (refusedBy (s .run) k) .status) ≡ false
     by k true e = refl
     by k false e = rw e
 
 -- ---- where it leads
 
 module _ {A : Type 0} {x : Out A} (o : Outcome) (s : State) (t : List ℕ) (rest : Step A) (h : Leads x o s t rest) where
-  pub leads-on : going (o .ending) ≡ true → x ≡ rest (onRun s (o .run)) t
-  leads-on e = h ∙ ap (λ (b : Bool). choose b (rest (onRun s (o .run)) t) (ends (o .ending) (onRun s (o .run)) t)) e
+  pub leads-on : going (o .status) ≡ true → x ≡ rest (onRun s (o .run)) t
+  leads-on e = h ∙ ap (λ (b : Bool). choose b (rest (onRun s (o .run)) t) (ends (endingBy o) (onRun s (o .run)) t)) e
 
-  pub leads-off : going (o .ending) ≡ false → x ≡ ends (o .ending) (onRun s (o .run)) t
-  leads-off e = h ∙ ap (λ (b : Bool). choose b (rest (onRun s (o .run)) t) (ends (o .ending) (onRun s (o .run)) t)) e
+  pub leads-off : going (o .status) ≡ false → x ≡ ends (endingBy o) (onRun s (o .run)) t
+  leads-off e = h ∙ ap (λ (b : Bool). choose b (rest (onRun s (o .run)) t) (ends (endingBy o) (onRun s (o .run)) t)) e
 
 -- a beginning that goes on
 module _ (r : Run) (k : ℕ) (o : Outcome) where
-  passed : going (following r k o .ending) ≡ true → (k ≡ 0) × (going (o .ending) ≡ true)
+  passed : going (following r k o .status) ≡ true → (k ≡ 0) × (going (o .status) ≡ true)
   passed = by (eqb k 0) refl
     where
-      by : (b : Bool) → eqb k 0 ≡ b → going (choose b o (refusedBy r k) .ending) ≡ true → (k ≡ 0) × (going (o .ending) ≡ true)
+      by : (b : Bool) → eqb k 0 ≡ b → going (choose b o (refusedBy r k) .status) ≡ true → (k ≡ 0) × (going (o .status) ≡ true)
       by true e h = (eqb-true k 0 e, h)
       by false e h = absurd (no (sym h ∙ rw e))
         where
@@ -222,13 +222,13 @@ module _ (r : Run) (k : ℕ) (o : Outcome) where
   passed-is : k ≡ 0 → following r k o ≡ o
   passed-is e = ap (λ (b : Bool). choose b o (refusedBy r k)) (eq-eqb k 0 e)
 
-turned-going : (reading : Bool) (r : Run) → going (turnedBy reading r .ending) ≡ true → turnedBy reading r .run ≡ inMood r reading
+turned-going : (reading : Bool) (r : Run) → going (turnedBy reading r .status) ≡ true → turnedBy reading r .run ≡ inMood r reading
 turned-going reading r = by (mayDo reading (r .file .rights)) (turnableBy reading r)
   where
     no : false ≡ true → ⊥
     no p = let z : _≡_ {A = ℕ} 0 1 = cc in omega arith
 
-    by : (p q : Bool) → going (choose p (choose q (doneBy (inMood r reading)) (refusedBy r 5)) (refusedBy r 4) .ending) ≡ true → choose p (choose q (doneBy (inMood r reading)) (refusedBy r 5)) (refusedBy r 4) .run ≡ inMood r reading
+    by : (p q : Bool) → going (choose p (choose q (doneBy (inMood r reading)) (refusedBy r 5)) (refusedBy r 4) .status) ≡ true → choose p (choose q (doneBy (inMood r reading)) (refusedBy r 5)) (refusedBy r 4) .run ≡ inMood r reading
     by true true h = refl
     by true false h = absurd (no h)
     by false q h = absurd (no h)
@@ -237,9 +237,9 @@ module _ (row : List ℕ) (n : ℕ) (s : State) (taken : s .run .taken ≡ 0) (e
   any-mood : (action : Action) (b : Bool) → Ready row action s → Ready row action (onRun s (inMood (s .run) b))
   any-mood action b rd = record { valid = rd .valid; took = rd .took; room = rd .room }
 
-  module _ (reading : Bool) {o : Outcome} (h : o ≡ preparedBy row reading n s) (e : going (o .ending) ≡ true) where
-    prepared-passed : (beforeAsking row n s ≡ 0) × (going (turnedBy reading (s .run) .ending) ≡ true)
-    prepared-passed = passed (s .run) (beforeAsking row n s) (turnedBy reading (s .run)) (ap (λ (x : Outcome). going (x .ending)) (sym h) ∙ e)
+  module _ (reading : Bool) {o : Outcome} (h : o ≡ preparedBy row reading n s) (e : going (o .status) ≡ true) where
+    prepared-passed : (beforeAsking row n s ≡ 0) × (going (turnedBy reading (s .run) .status) ≡ true)
+    prepared-passed = passed (s .run) (beforeAsking row n s) (turnedBy reading (s .run)) (ap (λ (x : Outcome). going (x .status)) (sym h) ∙ e)
 
     prepared-run : o .run ≡ inMood (s .run) reading
     prepared-run = ap (λ (x : Outcome). x .run) (h ∙ passed-is (s .run) (beforeAsking row n s) (turnedBy reading (s .run)) (prepared-passed .0)) ∙ turned-going reading (s .run) (prepared-passed .1)
@@ -255,9 +255,9 @@ module _ (row : List ℕ) (n : ℕ) (s : State) (taken : s .run .taken ≡ 0) (e
     prepared-events = subst (λ (r : Run). r .events ≤ 2 ^ 40) (sym prepared-run) (omega (arith, events))
 
   -- of a beginning that leaves the running call as it is
-  module _ (first : Bool) (number : ℕ) {o : Outcome} (h : o ≡ following (s .run) (beforeAsking row n s) (choose first (doneBy (s .run)) (refusedBy (s .run) number))) (e : going (o .ending) ≡ true) where
-    began-passed : (beforeAsking row n s ≡ 0) × (going (choose first (doneBy (s .run)) (refusedBy (s .run) number) .ending) ≡ true)
-    began-passed = passed (s .run) (beforeAsking row n s) (choose first (doneBy (s .run)) (refusedBy (s .run) number)) (ap (λ (x : Outcome). going (x .ending)) (sym h) ∙ e)
+  module _ (first : Bool) (number : ℕ) {o : Outcome} (h : o ≡ following (s .run) (beforeAsking row n s) (choose first (doneBy (s .run)) (refusedBy (s .run) number))) (e : going (o .status) ≡ true) where
+    began-passed : (beforeAsking row n s ≡ 0) × (going (choose first (doneBy (s .run)) (refusedBy (s .run) number) .status) ≡ true)
+    began-passed = passed (s .run) (beforeAsking row n s) (choose first (doneBy (s .run)) (refusedBy (s .run) number)) (ap (λ (x : Outcome). going (x .status)) (sym h) ∙ e)
 
     pub began-run : o .run ≡ s .run
     began-run = ap (λ (x : Outcome). x .run) (h ∙ passed-is (s .run) (beforeAsking row n s) (choose first (doneBy (s .run)) (refusedBy (s .run) number)) (began-passed .0)) ∙ by first
@@ -272,12 +272,9 @@ module _ (row : List ℕ) (n : ℕ) (s : State) (taken : s .run .taken ≡ 0) (e
 
 -- ---- the end of a call as its reply
 
-going-finished : (e : Ending) → going e ≡ true → e ≡ finished
-going-finished e h = let f : (e .number ≡ 0) × (e .stop ≡ 0) = both (e .number) (e .stop) h in ap (λ (n : ℕ). ending n (e .stop)) (f .0) ∙ ap (λ (n : ℕ). ending 0 n) (f .1)
+going-finished : (e : Status) → going e ≡ true → e ≡ statusOf 0 0
+going-finished e h = let f : (e .number ≡ 0) × (e .stop ≡ 0) = both (e .number) (e .stop) h in ap (λ (n : ℕ). statusOf n (e .stop)) (f .0) ∙ ap (λ (n : ℕ). statusOf 0 n) (f .1)
   where
-    ending : ℕ → ℕ → Ending
-    ending n m = record { number = n; stop = m }
-
     no : false ≡ true → ⊥
     no p = let z : _≡_ {A = ℕ} 0 1 = cc in omega arith
 
@@ -289,17 +286,17 @@ going-finished e h = let f : (e .number ≡ 0) × (e .stop ≡ 0) = both (e .num
         by false p q = absurd (no q)
 
 -- a call that ended before it gave anything
-pub reply-ends : (buffer : List ℕ) {x : Out Value} (o : Outcome) (t l p : List ℕ) → x ≡ ends (o .ending) (state (o .run) l p) t → after (endedReply o) buffer t l p ≡ leave buffer x
+pub reply-ends : (buffer : List ℕ) {x : Out Value} (o : Outcome) (t l p : List ℕ) → x ≡ ends (endingBy o) (state (o .run) l p) t → after (endedReply o) buffer t l p ≡ leave buffer x
 unfolding leave
 reply-ends buffer o t l p h = sym (ap (leave buffer) h)
 
 -- a call that gives nothing
 pub reply-nothing : (buffer : List ℕ) {x : Out Value} (o : Outcome) (t l p : List ℕ) → outcomeGiving nothing o t l p ≡ x → after (endedReply o) buffer t l p ≡ leave buffer x
 unfolding leave
-reply-nothing buffer o t l p h = by (going (o .ending)) refl ∙ ap (leave buffer) h
+reply-nothing buffer o t l p h = by (going (o .status)) refl ∙ ap (leave buffer) h
   where
-    by : (b : Bool) → going (o .ending) ≡ b → after (endedReply o) buffer t l p ≡ leave buffer (choose b (done nothing (state (o .run) l p) t) (ends (o .ending) (state (o .run) l p) t))
-    by true e = ap (λ (x : Ending). after (replyOf (o .run) 0 (Nothing x)) buffer t l p) (going-finished (o .ending) e)
+    by : (b : Bool) → going (o .status) ≡ b → after (endedReply o) buffer t l p ≡ leave buffer (choose b (done nothing (state (o .run) l p) t) (ends (endingBy o) (state (o .run) l p) t))
+    by true e = ap (λ (x : Status). after (replyOf (o .run) 0 (Nothing x)) buffer t l p) (going-finished (o .status) e)
     by false e = refl
 
 -- a call that gives a character, or an integer
@@ -346,17 +343,17 @@ neither a b e f = rw (e, f)
 -- ---- a call as a whole: how it began, and what its work came to
 
 module _ (buffer : List ℕ) {x : Out Value} (o : Outcome) (t l p : List ℕ) (rest : Step Value) (h : Leads x o (state (o .run) l p) t rest) where
-  pub call-refused : going (o .ending) ≡ false → {reply : Reply} → reply ≡ endedReply o → after reply buffer t l p ≡ leave buffer x
+  pub call-refused : going (o .status) ≡ false → {reply : Reply} → reply ≡ endedReply o → after reply buffer t l p ≡ leave buffer x
   call-refused e q = ap (λ (y : Reply). after y buffer t l p) q ∙ reply-ends buffer o t l p (leads-off o (state (o .run) l p) t rest h e)
 
   -- with work that gives nothing
   module _ (f : Step (Unit {0})) (is : (u : State) (t : List ℕ) → rest u t ≡ (f >>= λ _. pure nothing) u t) where
-    pub call-worked : going (o .ending) ≡ true → (y : Outcome) (t′ l′ p′ : List ℕ) → outcome y t′ l′ p′ ≡ f (state (o .run) l p) t → {reply : Reply} → reply ≡ endedReply y → after reply buffer t′ l′ p′ ≡ leave buffer x
+    pub call-worked : going (o .status) ≡ true → (y : Outcome) (t′ l′ p′ : List ℕ) → outcome y t′ l′ p′ ≡ f (state (o .run) l p) t → {reply : Reply} → reply ≡ endedReply y → after reply buffer t′ l′ p′ ≡ leave buffer x
     call-worked e y t′ l′ p′ c q = ap (λ (z : Reply). after z buffer t′ l′ p′) q
         ∙ reply-nothing buffer y t′ l′ p′ (with-value nothing y t′ l′ p′ f (state (o .run) l p) t c ∙ sym (is (state (o .run) l p) t) ∙ sym (leads-on o (state (o .run) l p) t rest h e))
 
   -- with work that may give a character or an integer
-  pub call-gave : going (o .ending) ≡ true → (y : Run) (g : Given) (t′ l′ p′ : List ℕ) → givenOut y g t′ l′ p′ ≡ rest (state (o .run) l p) t → {reply : Reply} → reply ≡ replyOf y 0 g → after reply buffer t′ l′ p′ ≡ leave buffer x
+  pub call-gave : going (o .status) ≡ true → (y : Run) (g : Given) (t′ l′ p′ : List ℕ) → givenOut y g t′ l′ p′ ≡ rest (state (o .run) l p) t → {reply : Reply} → reply ≡ replyOf y 0 g → after reply buffer t′ l′ p′ ≡ leave buffer x
   call-gave e y g t′ l′ p′ c q = ap (λ (z : Reply). after z buffer t′ l′ p′) q
       ∙ reply-given buffer y g t′ l′ p′ (c ∙ sym (leads-on o (state (o .run) l p) t rest h e))
 
@@ -373,7 +370,7 @@ module _ (row : List ℕ) (file : File) (end : Position) (t l p : List ℕ) (rea
   pub begun : o ≡ preparedBy row reading (length t) (startOf file end l p)
   begun = h ∙ ap (λ (x : Run). preparedBy row reading (length t) (state x l p)) er
 
-  module _ (e : going (o .ending) ≡ true) where
+  module _ (e : going (o .status) ≡ true) where
     pub begun-ready : (action : Action) → Ready row action (state (o .run) l p)
     begun-ready action = prepared-ready row (length t) (startOf file end l p) refl refl reading begun e action
 

@@ -6,8 +6,7 @@ use mathlib.Core.Path.{_≡_, refl, ap}
 use mathlib.Core.List.{List}
 use lib.ListN.{length}
 use Rattle.rules.specs.declared.File.{File}
-use Rattle.rules.specs.declared.Ending.{Ending}
-use Rattle.rules.specs.Step.{Out}
+use Rattle.rules.specs.Step.{Ending, Out}
 use Rattle.rules.specs.Steps.{boundMet}
 use Rattle.rules.specs.Calls.{Value, nothing, aCharacter, anInteger, aView, aString, Call, bufferOf, Book, Result, enter, leave, call}
 use Rattle.bounded.specs.Row.{rowOf}

@@ -5,9 +5,8 @@ use mathlib.Core.Path.{_≡_}
 use mathlib.Core.List.{List}
 use lib.Dec.{T}
 use lib.ListN.{length}
-use Rattle.rules.specs.declared.Ending.{Ending}
 use Rattle.rules.specs.Book.{State, here, rowFits, allFits}
-use Rattle.rules.specs.Step.{finished}
+use Rattle.rules.specs.Step.{Ending, finished}
 use Rattle.rules.specs.Steps.{Action, spent, execute}
 use Rattle.rules.specs.Ready.{Valid, Ready}
 use Rattle.rules.specs.Calls.{Value, nothing, aCharacter, anInteger, aView, aString}

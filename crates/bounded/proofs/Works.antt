@@ -8,9 +8,8 @@ use lib.Dec.{T, leb, eqb}
 use lib.IntN.{ℤ, pos}
 use lib.ListN.{length}
 use Rattle.rules.specs.declared.Position.{Position}
-use Rattle.rules.specs.declared.Ending.{Ending}
 use Rattle.rules.specs.Book.{State, onRun, here, rightsOf, inMood, rowFits, shapeFits, bookFits, allFits, Event}
-use Rattle.rules.specs.Step.{Step, _>>=_, pure, refusal, stopped, size}
+use Rattle.rules.specs.Step.{Ending, Step, _>>=_, pure, refusal, stopped, size}
 use Rattle.rules.specs.Steps.{goodLine, newline, newpage, setTo, putCharacter, roomFor, passBlanks, moreDigits, setCharacterNumber}
 use Rattle.rules.specs.Whole.{wholeText, lowest}
 use Rattle.rules.specs.Calls.{Value, nothing, aCharacter, anInteger, aView, aString, begin, needRow, turnable, turn, putting, getting, established, establishing, opening, closing, resetting, backspacing, shown, shownPart, orMarker, viewing, viewNumber, withSign, putCharacters, puttingString, putText, puttingInteger, gettingCharacter, getCharacters, gettingString, integerGiven, takeInteger, gettingInteger, inMoodOn, spacing, newlining, newpaging, settingCharacterNumber, setting, Plain, establishes, opens, closes, resets, backspaces, views, viewNumbers, Asking, putsCharacter, putsString, putsInteger, getsCharacter, getsInteger, spaces, newlines, newpages, getsString, sets, setsCharacterNumber, Call, plain, asking, plainWork, askingWork, work}

@@ -11,7 +11,7 @@ use Rattle.rules.specs.declared.Given.{Given}
 use Rattle.rules.specs.declared.Given.the-variants.{Nothing}
 use Rattle.rules.specs.declared.Reply.{Reply}
 use Rattle.rules.specs.Book.{choose, State, inMood, rowFits, allFits}
-use Rattle.rules.specs.Step.{refusal, doneBy, refusedBy}
+use Rattle.rules.specs.Step.{statusOf, doneBy, refusedBy}
 
 -- sizes that fit, of n characters and of l and p lengths
 abbrev pub sizesAre : Shape → ℕ → ℕ → ℕ → Bool
@@ -38,7 +38,7 @@ abbrev pub replyOf : Run → ℕ → Given → Reply
 replyOf r count given = record { file = r .file; end = r .end; events = r .events; taken = r .taken; count = count; given = given }
 
 abbrev pub refusedReply : Run → ℕ → Reply
-refusedReply r n = replyOf r 0 (Nothing (refusal n))
+refusedReply r n = replyOf r 0 (Nothing (statusOf n 0))
 
 abbrev pub endedReply : Outcome → Reply
-endedReply o = replyOf (o .run) 0 (Nothing (o .ending))
+endedReply o = replyOf (o .run) 0 (Nothing (o .status))

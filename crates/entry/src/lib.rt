@@ -1,5 +1,4 @@
 // What every call begins and ends with: the tests before work, the turn of the moods, and the reply.
-use rules::Ending;
 use rules::File;
 use rules::Given;
 use rules::Outcome;
@@ -8,6 +7,7 @@ use rules::Reply;
 use rules::Rights;
 use rules::Run;
 use rules::Shape;
+use rules::Status;
 ghost use mathlib.Core.Path.{_≡_};
 ghost use lib.Dec.{T};
 ghost use lib.ListN.{length};
@@ -295,11 +295,11 @@ pub fn reply(run: Run, count: usize, given: Given) -> Reply
 pub fn refuse(run: Run, number: u8) -> Reply
     ensures { λ r. ⌜ r ≡ refusedReply run number ⌝ }
 {
-    let ending = Ending {
+    let status = Status {
         number: number,
         stop: 0,
     };
-    reply(run, 0, Given::Nothing(ending))
+    reply(run, 0, Given::Nothing(status))
 }
 
 // A call that gives nothing but how it ended.
@@ -307,6 +307,6 @@ pub fn ended(o: Outcome) -> Reply
     ensures { λ r. ⌜ r ≡ endedReply o ⌝ }
 {
     let run = o.run;
-    let ending = o.ending;
-    reply(run, 0, Given::Nothing(ending))
+    let status = o.status;
+    reply(run, 0, Given::Nothing(status))
 }

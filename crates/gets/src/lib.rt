@@ -56,8 +56,8 @@ pub fn get_string(
     }
     let got = strings::get_string(o.run, terminators, output, text, lines, pages, row);
     let run = got.run;
-    let ending = got.ending;
-    entry::reply(run, got.count, Given::Nothing(ending))
+    let status = got.status;
+    entry::reply(run, got.count, Given::Nothing(status))
 }
 
 // Gets an integer.

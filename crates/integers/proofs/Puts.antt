@@ -8,9 +8,8 @@ use lib.ListN.{length, set}
 use lib.Seq.{sets}
 use Rattle.rules.specs.declared.Run.{Run}
 use Rattle.rules.specs.declared.Outcome.{Outcome}
-use Rattle.rules.specs.declared.Ending.{Ending}
 use Rattle.rules.specs.Book.{characterIndex, State, onRun, here, shapeOf}
-use Rattle.rules.specs.Step.{done, ends, outcome, doneBy}
+use Rattle.rules.specs.Step.{Ending, done, ends, outcome, doneBy}
 use Rattle.rules.specs.Steps.{roomFor, execute}
 use Rattle.rules.specs.Ready.{Ready, Valid}
 use Rattle.rules.specs.Whole.{wholeText}

@@ -15,9 +15,8 @@ use Rattle.rules.specs.Whole.{wholeText}
 use borrow.Author.Tests.{le-leb, lt-leb, leb-true, leb-false, eq-eqb, ne-eqb}
 use Rattle.rules.specs.declared.Run.{Run}
 use Rattle.rules.specs.declared.Outcome.{Outcome}
-use Rattle.rules.specs.declared.Ending.{Ending}
 use Rattle.rules.specs.Book.{choose, within, nextCharacter, characterIndex, State, state, onRun, here, shapeOf, movedTo, rowFits}
-use Rattle.rules.specs.Step.{Out, done, ends, refusal, going, outcomeGiving, outcome, refusedBy, doneBy}
+use Rattle.rules.specs.Step.{endingBy, Out, done, ends, refusal, going, outcomeGiving, outcome, refusedBy, doneBy}
 use Rattle.rules.specs.Steps.{Action, goodLine, passBlanks, moreDigits, digit, isStop, characterEvent, measure, execute}
 use Rattle.rules.specs.Ready.{Ready, Valid}
 use Rattle.laws.specs.Capped.{capped, withCap}
@@ -133,14 +132,14 @@ module _ {row : List ℕ} {first : ℕ} {s₀ : State} {t₀ : List ℕ} {value 
   summing-line = more-line row (m .exact) s t (m .ready)
 
   -- an ending that is no stop, and one that is
-  pub summing-halts : (o : Outcome) (t′ l p : List ℕ) → outcome o t′ l p ≡ execute row (goodLine true true) s t → going (o .ending) ≡ false → o .ending .stop ≡ 0 → outcomeGiving value o t′ l p ≡ withCap (execute row (moreDigits first) s₀ t₀)
-  summing-halts o t′ l p c g z = hands-none value o (ap withCap (m .same ∙ more-ends row (m .exact) s t (m .ready) (halted o c g) (ap not (eq-eqb (o .ending .stop) 0 z)))) g
+  pub summing-halts : (o : Outcome) (t′ l p : List ℕ) → outcome o t′ l p ≡ execute row (goodLine true true) s t → going (o .status) ≡ false → o .status .stop ≡ 0 → outcomeGiving value o t′ l p ≡ withCap (execute row (moreDigits first) s₀ t₀)
+  summing-halts o t′ l p c g z = hands-none value o (ap withCap (m .same ∙ more-ends row (m .exact) s t (m .ready) (halted o c g) (ap not (eq-eqb (o .status .stop) 0 z)))) g
 
   gives-value : (u : State) (t′ : List ℕ) → execute row (moreDigits (m .exact)) s t ≡ done (m .exact) u t′ → {x : Outcome} → x ≡ doneBy (u .run) → outcomeGiving value x t′ (u .lengths .lines) (u .lengths .pages) ≡ withCap (execute row (moreDigits first) s₀ t₀)
   gives-value u t′ h {x} hx = ap (λ (o : Outcome). outcomeGiving value o t′ (u .lengths .lines) (u .lengths .pages)) hx ∙ ap (λ (n : ℕ). done n u t′) (m .value-is) ∙ sym (ap withCap (m .same ∙ h))
 
-  pub summing-stops : (o : Outcome) (t′ l p : List ℕ) → outcome o t′ l p ≡ execute row (goodLine true true) s t → going (o .ending) ≡ false → (o .ending .stop ≡ 0 → ⊥) → {x : Outcome} → x ≡ doneBy (o .run) → outcomeGiving value x t′ l p ≡ withCap (execute row (moreDigits first) s₀ t₀)
-  summing-stops o t′ l p c g z hx = gives-value (state (o .run) l p) t′ (more-stops row (m .exact) s t (m .ready) (halted o c g) (ap not (ne-eqb (o .ending .stop) 0 z))) hx
+  pub summing-stops : (o : Outcome) (t′ l p : List ℕ) → outcome o t′ l p ≡ execute row (goodLine true true) s t → going (o .status) ≡ false → (o .status .stop ≡ 0 → ⊥) → {x : Outcome} → x ≡ doneBy (o .run) → outcomeGiving value x t′ l p ≡ withCap (execute row (moreDigits first) s₀ t₀)
+  summing-stops o t′ l p c g z hx = gives-value (state (o .run) l p) t′ (more-stops row (m .exact) s t (m .ready) (halted o c g) (ap not (ne-eqb (o .status .stop) 0 z))) hx
 
   module _ {b : State} {t₁ : List ℕ} (f : execute row (goodLine true true) s t ≡ done tt b t₁) {c : ℕ} (e : c ≡ getD t₁ (characterIndex (shapeOf b) (here b)) 0) where
     pub summing-valid : Valid b
@@ -184,7 +183,7 @@ state-of (ends e s t) = s
 pub nothing-out : (o : Outcome) (t l p : List ℕ) {r : Found} → r ≡ nothingFound o → givenOut (r .run) (r .given) t l p ≡ outcomeGiving nothing o t l p
 nothing-out o t l p h = ap (λ (f : Found). givenOut (f .run) (f .given) t l p) h
 
-pub nothing-ends : (o : Outcome) (t l p : List ℕ) {r : Found} → r ≡ nothingFound o → going (o .ending) ≡ false → {x : Out Value} → x ≡ ends (o .ending) (state (o .run) l p) t → givenOut (r .run) (r .given) t l p ≡ x
+pub nothing-ends : (o : Outcome) (t l p : List ℕ) {r : Found} → r ≡ nothingFound o → going (o .status) ≡ false → {x : Out Value} → x ≡ ends (endingBy o) (state (o .run) l p) t → givenOut (r .run) (r .given) t l p ≡ x
 nothing-ends o t l p h g e = nothing-out o t l p h ∙ hands-none nothing o e g
 
 pub nothing-refused : {u : Run} {o : Outcome} {t l p : List ℕ} {r : Found} → o ≡ refusedBy u 9 → r ≡ nothingFound o → givenOut (r .run) (r .given) t l p ≡ ends (refusal 9) (state u l p) t

@@ -10,4 +10,4 @@ abbrev pub nextValue : ℕ → ℕ → ℕ
 nextValue v b = capped (v * 10 + (b - 48))
 
 abbrev pub nothingFound : Outcome → Found
-nothingFound o = record { run = o .run; given = Nothing (o .ending) }
+nothingFound o = record { run = o .run; given = Nothing (o .status) }

@@ -1,9 +1,9 @@
 // Integers put and got: the room that one needs, its text, and its digits.
 use lines::Taken;
-use rules::Ending;
 use rules::Given;
 use rules::Outcome;
 use rules::Run;
+use rules::Status;
 ghost use mathlib.Core.Path.{_≡_};
 ghost use mathlib.Core.Bool.{true};
 ghost use Prim.Native.Nat.{_+_, _≤_, _<_, _^_};
@@ -289,7 +289,7 @@ pub fn more_digits(
         let good = lines::good_line(here, true, true, text, lines, pages, row);
         let at = good.run;
         if !running::goes_on(good) {
-            if good.ending.stop == 0 {
+            if good.status.stop == 0 {
                 return Summed {
                     outcome: good,
                     value: value,
@@ -323,10 +323,10 @@ pub fn found_nothing(o: Outcome) -> Found
     ensures { λ r. ⌜ r ≡ nothingFound o ⌝ }
 {
     let run = o.run;
-    let ending = o.ending;
+    let status = o.status;
     Found {
         run: run,
-        given: Given::Nothing(ending),
+        given: Given::Nothing(status),
     }
 }
 

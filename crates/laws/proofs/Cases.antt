@@ -10,10 +10,9 @@ use lib.ListN.{length}
 use borrow.Author.Tests.{eq-eqb, ne-eqb}
 use Rattle.rules.specs.declared.Position.{Position}
 use Rattle.rules.specs.declared.Run.{Run}
-use Rattle.rules.specs.declared.Ending.{Ending}
 use Rattle.rules.specs.declared.Outcome.{Outcome}
 use Rattle.rules.specs.Book.{choose, before, inBounds, nextLine, nextPage, previousCharacter, State, state, onRun, here, endOf, shapeOf, rightsOf, movedTo, inMood, withFile, rewound, kindOf, placeOf, characterOf, mendingOf, logicalEnd, pageEnd, lineEnd, Answer, Mending, isTrue}
-use Rattle.rules.specs.Step.{Out, done, ends, Step, _>>=_, pure, halt, refuse, refuseAt, refusal, stopped, change, branch, test, need, outcome, doneBy, refusedBy, stoppedBy, fileEnded, pageEnded, lineEnded, onEndPage, onEndLine, again, goTo, goToEnd, signal, moodOn, backspace, reset, endLine, endPage}
+use Rattle.rules.specs.Step.{Ending, Out, done, ends, Step, _>>=_, pure, halt, refuse, refuseAt, refusal, stopped, change, branch, test, need, outcome, doneBy, refusedBy, stoppedBy, fileEnded, pageEnded, lineEnded, onEndPage, onEndLine, again, goTo, goToEnd, signal, moodOn, backspace, reset, endLine, endPage}
 use Rattle.rules.specs.Steps.{Action, goodFile, goodPage, goodLine, atPageEnd, atLineEnd, newline, newpage, setTo, perform, answered, fileEnd, signals, signalWhile, upon, goodFileBody, goodPageBody, goodLineBody, atPageEndBody, atLineEndBody, newlineBody, newpageBody, setToBody, performBody, answeredBody, body, stage, execute}
 use Rattle.laws.specs.Follow.{followed}
 use Rattle.laws.proofs.Validity.{Valid, Near, near-at, near-end, toEnd, end-valid, end-further}

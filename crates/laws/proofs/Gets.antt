@@ -11,9 +11,8 @@ use lib.Seq.{sets, sets-eq, take-at, take-suc-set, append-snoc}
 use borrow.Author.Tests.{le-ltb, not-true}
 use Rattle.rules.specs.declared.Position.{Position}
 use Rattle.rules.specs.declared.Run.{Run}
-use Rattle.rules.specs.declared.Ending.{Ending}
 use Rattle.rules.specs.Book.{place, before, nextCharacter, characterIndex, State, onRun, here, endOf, shapeOf, lineHere, movedTo}
-use Rattle.rules.specs.Step.{Out, done, ends, Step, fileEnded, _>>=_, pure, halt, stopped, attempt, branch, characterHere}
+use Rattle.rules.specs.Step.{Ending, Out, done, ends, Step, fileEnded, _>>=_, pure, halt, stopped, attempt, branch, characterHere}
 use Rattle.rules.specs.Steps.{Action, goodLine, passBlanks, printable, characterEvent, rank, stage, execute}
 use Rattle.rules.specs.Calls.{Value, aString, takeCharacter, oneOf, stringCharacter, getCharacters}
 use Rattle.laws.specs.Runs.{onBy, every, ordinary}

@@ -10,10 +10,9 @@ use lib.ListN.{length, set}
 use borrow.Author.Tests.{eq-eqb, ne-eqb, lt-ltb, le-ltb, eqb-true, eqb-false}
 use Rattle.rules.specs.declared.Position.{Position}
 use Rattle.rules.specs.declared.Run.{Run}
-use Rattle.rules.specs.declared.Ending.{Ending}
 use Rattle.rules.specs.declared.Outcome.{Outcome}
 use Rattle.rules.specs.Book.{choose, place, before, within, nextCharacter, previousCharacter, characterIndex, State, state, onRun, here, endOf, shapeOf, rightsOf, lineHere, withEnd, movedTo, mendingOf, suggested, Event, lineEnd, Answer, kindOf, nextLine, inMood}
-use Rattle.rules.specs.Step.{Out, done, ends, Step, _>>=_, pure, halt, refuse, refuseAt, refusal, stopped, look, change, branch, test, need, outcomeGiving, outcome, doneBy, refusedBy, stoppedBy, fileEnded, pageEnded, lineEnded, pass, signal, store, endAfter, backspace, onEndLine}
+use Rattle.rules.specs.Step.{Ending, Out, done, ends, Step, _>>=_, pure, halt, refuse, refuseAt, refusal, stopped, look, change, branch, test, need, outcomeGiving, outcome, doneBy, refusedBy, stoppedBy, fileEnded, pageEnded, lineEnded, pass, signal, store, endAfter, backspace, onEndLine}
 use Rattle.rules.specs.Steps.{Action, goodFile, goodPage, goodLine, atLineEnd, newline, perform, answered, putCharacter, setCharacterNumber, printable, backspaces, signals, signalWhile, upon, goodLineBody, atLineEndBody, characterEvent, putCharacterBody, spaceStep, setCharacterNumberBody, body, stage, measure, execute}
 use Rattle.laws.specs.Follow.{followed}
 use Rattle.laws.specs.Runs.{onBy, storedBy}

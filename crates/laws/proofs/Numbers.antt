@@ -10,10 +10,9 @@ use lib.ListN.{length, set, getD, replicate, length-append, length-replicate}
 use lib.Seq.{sets}
 use borrow.Author.Tests.{le-leb, lt-leb, leb-true, leb-false, ltb-true, eq-eqb, ne-eqb, not-false}
 use Rattle.rules.specs.declared.Run.{Run}
-use Rattle.rules.specs.declared.Ending.{Ending}
 use Rattle.rules.specs.declared.Outcome.{Outcome}
 use Rattle.rules.specs.Book.{choose, within, nextCharacter, characterIndex, State, onRun, here, shapeOf, lineHere, movedTo, Event}
-use Rattle.rules.specs.Step.{Out, done, ends, Step, _>>=_, andThen, pure, change, halt, refuse, refuseAt, refusal, attempt, test, need, branch, pass, characterHere, outcomeGiving, outcome, doneBy, refusedBy}
+use Rattle.rules.specs.Step.{Ending, Out, done, ends, Step, _>>=_, andThen, pure, change, halt, refuse, refuseAt, refusal, attempt, test, need, branch, pass, characterHere, outcomeGiving, outcome, doneBy, refusedBy}
 use Rattle.rules.specs.Steps.{Action, goodLine, atLineEnd, putCharacter, roomFor, passBlanks, moreDigits, printable, digit, fitsHere, isStop, signals, signalWhile, characterEvent, roomForBody, passBlanksBody, moreDigitsBody, body, stage, measure, execute}
 use Rattle.rules.specs.Whole.{digitsUpTo, digits, signed, padded, wholeText}
 use Rattle.rules.specs.Calls.{Value, nothing, anInteger, putCharacters, putText, firstDigit, withSign, integerGiven, signBefore, takeInteger}

@@ -8,9 +8,8 @@ use mathlib.Core.Bool.{true, false}
 use lib.ListN.{length, take, drop, getD, length-take, length-drop, take-append-drop, drop-of-length-le}
 use lib.Seq.{sets, drop-cons, drop-drop}
 use Rattle.rules.specs.declared.Run.{Run}
-use Rattle.rules.specs.declared.Ending.{Ending}
 use Rattle.rules.specs.Book.{characterIndex, State, onRun, here, shapeOf, lineHere}
-use Rattle.rules.specs.Step.{done, ends, _>>=_, pure}
+use Rattle.rules.specs.Step.{Ending, done, ends, _>>=_, pure}
 use Rattle.rules.specs.Steps.{putCharacter, printable, execute}
 use Rattle.rules.specs.Calls.{putCharacters}
 use Rattle.laws.specs.Runs.{storedBy, every}

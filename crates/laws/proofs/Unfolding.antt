@@ -10,9 +10,8 @@ use lib.ListN.{length}
 use borrow.Author.Tests.{ltb-true, eqb-true, not-false}
 use Rattle.rules.specs.declared.Position.{Position}
 use Rattle.rules.specs.declared.Run.{Run}
-use Rattle.rules.specs.declared.Ending.{Ending}
 use Rattle.rules.specs.Book.{choose, before, within, nextCharacter, nextLine, nextPage, inBounds, pageLength, State, onRun, here, endOf, shapeOf, rightsOf, lineHere, movedTo, Event, logicalEnd, physicalEnd, pageEnd, lineEnd, Mending, Answer, isFalse, isTrue, suggested}
-use Rattle.rules.specs.Step.{Step, _>>=_, refuse, refusal, stopped, branch, test, fileEnded, pageEnded, lineEnded, onEndPage, onEndLine, store}
+use Rattle.rules.specs.Step.{Ending, Step, _>>=_, refuse, refusal, stopped, branch, test, fileEnded, pageEnded, lineEnded, onEndPage, onEndLine, store}
 use Rattle.rules.specs.Steps.{Action, Gives, goodFile, goodPage, goodLine, atPageEnd, atLineEnd, newline, newpage, setTo, perform, answered, putCharacter, roomFor, passBlanks, moreDigits, setCharacterNumber, printable, digit, fitsHere, isStop, fileEnd, signals, signalWhile, goodFileBody, goodPageBody, atPageEndBody, goodLineBody, atLineEndBody, newlineBody, newpageBody, setToBody, performBody, answeredBody, characterEvent, putCharacterBody, roomForBody, passBlanksBody, moreDigitsBody, spaceStep, setCharacterNumberBody, body, rank, spentBy, stage, measure, bounded, execute}
 use Rattle.laws.proofs.Order.{is-yes}
 use Rattle.laws.proofs.Validity.{Valid, Near, near-at, near-end, near-in, rules-moved, before-false, moveTo, toEnd, end-valid, end-further, writing-within, same-line, next-line-valid, next-page-valid, pass-valid, in-bounds}

@@ -10,9 +10,8 @@ use lib.ListN.{length, getD, set}
 use borrow.Author.Tests.{ltb-true, ltb-false, not-false}
 use Rattle.rules.specs.declared.Position.{Position}
 use Rattle.rules.specs.declared.Run.{Run}
-use Rattle.rules.specs.declared.Ending.{Ending}
 use Rattle.rules.specs.Book.{choose, place, before, nextCharacter, previousCharacter, nextLine, nextPage, characterIndex, lineIndex, pageLength, State, onRun, here, endOf, shapeOf, rightsOf, lineHere, movedTo, bothMovedTo, signalledBy, nextWord, Event, Mending, Answer, isFalse, isTrue, jump, answerOf}
-use Rattle.rules.specs.Step.{Out, done, ends, Step, _>>=_, andThen, caught, pure, halt, refuse, refusal, stopped, attempt, look, change, changeRun, branch, test, need, fileEnded, pageEnded, lineEnded, onEndPage, onEndLine, pass, signal, moodOn, backspace, reset, characterHere, endAfter, store, cutLine, fillLine, endLine, cutPage, fillPage, endPage}
+use Rattle.rules.specs.Step.{Ending, Out, done, ends, Step, _>>=_, andThen, caught, pure, halt, refuse, refusal, stopped, attempt, look, change, changeRun, branch, test, need, fileEnded, pageEnded, lineEnded, onEndPage, onEndLine, pass, signal, moodOn, backspace, reset, characterHere, endAfter, store, cutLine, fillLine, endLine, cutPage, fillPage, endPage}
 use Rattle.rules.specs.Steps.{Action, backspaces, upon, rank, spent, spentBy, stage}
 use Rattle.laws.proofs.Validity.{Valid, Rules, Near, near-at, near-end, near-in, stored-valid, stored-before, back-valid, first-valid, cut-line-fits, cut-page-fits, next-line-both, next-page-both}
 use Rattle.laws.proofs.Progress.{Grown, Gain, Answered, Ready, FileGood, moved-gain, heard, answer, heard-took}

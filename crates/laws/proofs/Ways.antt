@@ -9,10 +9,9 @@ use lib.Dec.{ltb, eqb}
 use lib.ListN.{length}
 use borrow.Author.Tests.{eq-eqb, ne-eqb, eqb-true, eqb-false}
 use Rattle.rules.specs.declared.Run.{Run}
-use Rattle.rules.specs.declared.Ending.{Ending}
 use Rattle.rules.specs.declared.Outcome.{Outcome}
 use Rattle.rules.specs.Book.{choose, State, state, onRun, inMood, signalledBy, nextWord, kindOf, mendingOf, Event, Mending, Answer, isFalse, isTrue, jump, answerOf}
-use Rattle.rules.specs.Step.{Out, done, ends, Step, _>>=_, andThen, caught, pure, halt, refuse, refuseAt, refusal, attempt, look, change, branch, test, need, going, outcomeGiving, outcome, signal}
+use Rattle.rules.specs.Step.{Ending, endingBy, Out, done, ends, Step, _>>=_, andThen, caught, pure, halt, refuse, refuseAt, refusal, attempt, look, change, branch, test, need, going, outcomeGiving, outcome, signal}
 use Rattle.rules.specs.Steps.{Action, Gives, answered, signals, signalWhile, upon, stage, measure, execute}
 use Rattle.laws.specs.Follow.{followed}
 use Rattle.laws.proofs.Validity.{Valid}
@@ -88,43 +87,43 @@ pass-on p q = p ∙ sym q
 
 -- ---- the code's outcome of a call
 
-by-going : {A : Type 0} (a : A) (o : Outcome) (t l p : List ℕ) {b : Bool} → going (o .ending) ≡ b → outcomeGiving a o t l p ≡ choose b (done a (state (o .run) l p) t) (ends (o .ending) (state (o .run) l p) t)
-by-going a o t l p e = ap (λ (b : Bool). choose b (done a (state (o .run) l p) t) (ends (o .ending) (state (o .run) l p) t)) e
+by-going : {A : Type 0} (a : A) (o : Outcome) (t l p : List ℕ) {b : Bool} → going (o .status) ≡ b → outcomeGiving a o t l p ≡ choose b (done a (state (o .run) l p) t) (ends (endingBy o) (state (o .run) l p) t)
+by-going a o t l p e = ap (λ (b : Bool). choose b (done a (state (o .run) l p) t) (ends (endingBy o) (state (o .run) l p) t)) e
 
 module _ {A : Type 0} (a : A) (o : Outcome) {t l p : List ℕ} {x : Out A} where
-  pub gives : outcomeGiving a o t l p ≡ x → going (o .ending) ≡ true → x ≡ done a (state (o .run) l p) t
+  pub gives : outcomeGiving a o t l p ≡ x → going (o .status) ≡ true → x ≡ done a (state (o .run) l p) t
   gives c e = sym c ∙ by-going a o t l p e
 
-  pub gives-none : outcomeGiving a o t l p ≡ x → going (o .ending) ≡ false → x ≡ ends (o .ending) (state (o .run) l p) t
+  pub gives-none : outcomeGiving a o t l p ≡ x → going (o .status) ≡ false → x ≡ ends (endingBy o) (state (o .run) l p) t
   gives-none c e = sym c ∙ by-going a o t l p e
 
   -- what code hands on where a call ended, and where it is done
-  pub hands-none : x ≡ ends (o .ending) (state (o .run) l p) t → going (o .ending) ≡ false → outcomeGiving a o t l p ≡ x
+  pub hands-none : x ≡ ends (endingBy o) (state (o .run) l p) t → going (o .status) ≡ false → outcomeGiving a o t l p ≡ x
   hands-none h e = by-going a o t l p e ∙ sym h
 
-  pub hands : x ≡ done a (state (o .run) l p) t → going (o .ending) ≡ true → outcomeGiving a o t l p ≡ x
+  pub hands : x ≡ done a (state (o .run) l p) t → going (o .status) ≡ true → outcomeGiving a o t l p ≡ x
   hands h e = by-going a o t l p e ∙ sym h
 
 -- the same of a step that gives nothing
 module _ (o : Outcome) {t l p : List ℕ} {x : Out (Unit {0})} where
-  pub reached : outcome o t l p ≡ x → going (o .ending) ≡ true → x ≡ done tt (state (o .run) l p) t
+  pub reached : outcome o t l p ≡ x → going (o .status) ≡ true → x ≡ done tt (state (o .run) l p) t
   reached = gives tt o
 
-  pub halted : outcome o t l p ≡ x → going (o .ending) ≡ false → x ≡ ends (o .ending) (state (o .run) l p) t
+  pub halted : outcome o t l p ≡ x → going (o .status) ≡ false → x ≡ ends (endingBy o) (state (o .run) l p) t
   halted = gives-none tt o
 
-  pub hands-on : x ≡ ends (o .ending) (state (o .run) l p) t → going (o .ending) ≡ false → outcome o t l p ≡ x
+  pub hands-on : x ≡ ends (endingBy o) (state (o .run) l p) t → going (o .status) ≡ false → outcome o t l p ≡ x
   hands-on = hands-none tt o
 
-  pub hands-done : x ≡ done tt (state (o .run) l p) t → going (o .ending) ≡ true → outcome o t l p ≡ x
+  pub hands-done : x ≡ done tt (state (o .run) l p) t → going (o .status) ≡ true → outcome o t l p ≡ x
   hands-done = hands tt o
 
 -- an outcome with a value put to it
 pub with-value : {A : Type 0} (a : A) (o : Outcome) (t l p : List ℕ) (f : Step (Unit {0})) (s : State) (t₀ : List ℕ) → outcome o t l p ≡ f s t₀ → outcomeGiving a o t l p ≡ (f >>= λ _. pure a) s t₀
 unfolding _>>=_ pure
-with-value a o t l p f s t₀ h = by (going (o .ending)) ∙ ap (andThen (λ _. pure a)) h
+with-value a o t l p f s t₀ h = by (going (o .status)) ∙ ap (andThen (λ _. pure a)) h
   where
-    by : (b : Bool) → choose b (done a (state (o .run) l p) t) (ends (o .ending) (state (o .run) l p) t) ≡ andThen (λ _. pure a) (choose b (done (tt {0}) (state (o .run) l p) t) (ends (o .ending) (state (o .run) l p) t))
+    by : (b : Bool) → choose b (done a (state (o .run) l p) t) (ends (endingBy o) (state (o .run) l p) t) ≡ andThen (λ _. pure a) (choose b (done (tt {0}) (state (o .run) l p) t) (ends (endingBy o) (state (o .run) l p) t))
     by true = refl
     by false = refl
 

@@ -28,17 +28,17 @@ module _ (row : List ℕ) (file : File) (end : Position) (t l p : List ℕ) {r :
     in-mood : o ≡ inMoodBy row (length t) start
     in-mood = h ∙ ap (λ (x : Run). inMoodBy row (length t) (state x l p)) er
 
-    pub mood-ready : going (o .ending) ≡ true → (action : Action) → Ready row action (state (o .run) l p)
+    pub mood-ready : going (o .status) ≡ true → (action : Action) → Ready row action (state (o .run) l p)
     mood-ready e action = began-ready row (length t) start refl refl (file .reading || file .writing) 5 in-mood e action
 
     module _ (f : Bool → Step (Unit {0})) where
       mood-from : Leads (begin (needRow row >> (moodOn >>= λ reading. (f reading >> pure nothing))) start t) o (state (o .run) l p) t (f (file .reading) >> pure nothing)
       mood-from = leads-as start t (f (file .reading) >> pure nothing) in-mood (mood-leads row start t (λ reading. (f reading >> pure nothing)))
 
-      pub mood-refused : going (o .ending) ≡ false → {reply : Reply} → reply ≡ endedReply o → after reply [] t l p ≡ leave [] (inMoodOn row f start t)
+      pub mood-refused : going (o .status) ≡ false → {reply : Reply} → reply ≡ endedReply o → after reply [] t l p ≡ leave [] (inMoodOn row f start t)
       mood-refused e q = call-refused [] o t l p (f (file .reading) >> pure nothing) mood-from e q
 
-      pub mood-worked : going (o .ending) ≡ true → (y : Outcome) (t′ l′ p′ : List ℕ) → outcome y t′ l′ p′ ≡ f (file .reading) (state (o .run) l p) t → {reply : Reply} → reply ≡ endedReply y → after reply [] t′ l′ p′ ≡ leave [] (inMoodOn row f start t)
+      pub mood-worked : going (o .status) ≡ true → (y : Outcome) (t′ l′ p′ : List ℕ) → outcome y t′ l′ p′ ≡ f (file .reading) (state (o .run) l p) t → {reply : Reply} → reply ≡ endedReply y → after reply [] t′ l′ p′ ≡ leave [] (inMoodOn row f start t)
       mood-worked e y t′ l′ p′ c q = call-worked [] o t l p (f (file .reading) >> pure nothing) mood-from (f (file .reading)) (λ u t. refl) e y t′ l′ p′ c q
 
 -- the calls in a mood
@@ -84,11 +84,11 @@ module _ (row : List ℕ) (file : File) (end : Position) (t l p : List ℕ) {r :
   set-from : Leads (begin (needRow row >> (need 4 (λ s. rightsOf s .«set») >> settingWork row x)) (startOf file end l p) t) o (state (o .run) l p) t (settingWork row x)
   set-from = leads-as (startOf file end l p) t (settingWork row x) may-set (set-leads row (startOf file end l p) t (settingWork row x))
 
-  pub set-refused : going (o .ending) ≡ false → {reply : Reply} → reply ≡ endedReply o → after reply [] t l p ≡ call (asking (sets x) row) file (book t l p end)
+  pub set-refused : going (o .status) ≡ false → {reply : Reply} → reply ≡ endedReply o → after reply [] t l p ≡ call (asking (sets x) row) file (book t l p end)
   unfolding call work askingWork bufferOf setting
   set-refused e q = call-refused [] o t l p (settingWork row x) set-from e q
 
-  module _ (e : going (o .ending) ≡ true) where
+  module _ (e : going (o .status) ≡ true) where
     pub set-ready : (action : Action) → Ready row action (state (o .run) l p)
     set-ready action = began-ready row (length t) (startOf file end l p) refl refl (file .rights .«set») 4 may-set e action
 
@@ -101,10 +101,10 @@ module _ (row : List ℕ) (file : File) (end : Position) (t l p : List ℕ) {r :
         ∙ ap (λ (y : Run). placed row x (y .file .reading) (y .file .writing) (state (o .run) l p) t) same-run))
 
     module _ (g : Outcome) (t₁ l₁ p₁ : List ℕ) (c : outcome g t₁ l₁ p₁ ≡ execute row (setTo x) (state (o .run) l p) t) where
-      pub set-ends : going (g .ending) ≡ false → {reply : Reply} → reply ≡ endedReply g → after reply [] t₁ l₁ p₁ ≡ call (asking (sets x) row) file (book t l p end)
+      pub set-ends : going (g .status) ≡ false → {reply : Reply} → reply ≡ endedReply g → after reply [] t₁ l₁ p₁ ≡ call (asking (sets x) row) file (book t l p end)
       set-ends n q = ap (λ (y : Reply). after y [] t₁ l₁ p₁) q ∙ reply-ends [] g t₁ l₁ p₁ (bind-ends (execute row (setTo x)) _ (state (o .run) l p) t (halted g c n)) ∙ set-is
 
-      pub set-went : going (g .ending) ≡ true → {y : Run} → y ≡ moodAgain (g .run) file → {d : Outcome} → d ≡ doneBy y → {reply : Reply} → reply ≡ endedReply d → after reply [] t₁ l₁ p₁ ≡ call (asking (sets x) row) file (book t l p end)
+      pub set-went : going (g .status) ≡ true → {y : Run} → y ≡ moodAgain (g .run) file → {d : Outcome} → d ≡ doneBy y → {reply : Reply} → reply ≡ endedReply d → after reply [] t₁ l₁ p₁ ≡ call (asking (sets x) row) file (book t l p end)
       set-went n {y = y} m {d = d} k q = ap (λ (z : Reply). after z [] t₁ l₁ p₁) (q ∙ ap endedReply (k ∙ ap doneBy m))
           ∙ reply-nothing [] (doneBy (moodAgain (g .run) file)) t₁ l₁ p₁ (sym (bind-done (execute row (setTo x)) _ (state (o .run) l p) t (reached g c n) ∙ again-is (file .reading || file .writing) (file .reading) (state (g .run) l₁ p₁) t₁)) ∙ set-is
 

@@ -3,7 +3,7 @@ use Prim.Native.Nat.{ℕ}
 use mathlib.Core.Path.{_≡_, refl, sym, ap, _∙_}
 use mathlib.Core.List.{List}
 use lib.IntN.{ℤ, pos}
-use Rattle.rules.specs.declared.Ending.{Ending}
+use Rattle.rules.specs.declared.Status.{Status}
 use Rattle.rules.specs.declared.Given.{Given}
 use Rattle.rules.specs.declared.Given.the-variants.{Nothing, Character, Integer}
 use Rattle.rules.specs.declared.Reply.{Reply}
@@ -22,7 +22,7 @@ module _ (reply : Reply) {x : Left} where
     reads = λ buffer t l p. ap (λ (y : Left). afterNumbers (y .file) (y .result) buffer t l p) q ∙ same buffer t l p ∙ sym (ap (λ (k : Given). afterGiven reply k buffer t l p) h);
   }
 
-  pub says-nothing : (e : Ending) → reply .given ≡ Nothing e → x ≡ resultOf reply (e .number) (e .stop) 0 (pos 0) → InNumbers reply x
+  pub says-nothing : (e : Status) → reply .given ≡ Nothing e → x ≡ resultOf reply (e .number) (e .stop) 0 (pos 0) → InNumbers reply x
   says-nothing e h q = says q (Nothing e) h (λ buffer t l p. refl)
 
   pub says-character : (b : ℕ) {v : ℤ} → reply .given ≡ Character b → v ≡ pos b → x ≡ resultOf reply 0 0 1 v → InNumbers reply x

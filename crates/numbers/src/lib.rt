@@ -58,7 +58,7 @@ pub fn in_numbers(reply: Reply) -> Left
 {
     let given = reply.given;
     match given {
-        Given::Nothing(ending) => result_of(reply, ending.number, ending.stop, 0, 0),
+        Given::Nothing(status) => result_of(reply, status.number, status.stop, 0, 0),
         Given::Character(b) => result_of(reply, 0, 0, 1, b as i32),
         Given::Integer(v) => result_of(reply, 0, 0, 2, v),
     }

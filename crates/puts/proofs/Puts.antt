@@ -29,20 +29,20 @@ module _ (row : List ℕ) (file : File) (end : Position) (t l p : List ℕ) wher
     put-from rest = leads-as start t rest (begun row file end t l p false er h) (put-leads row start t rest)
 
     module _ (bs : List ℕ) where
-      pub string-refused : going (o .ending) ≡ false → {reply : Reply} → reply ≡ endedReply o → after reply [] t l p ≡ call (asking (putsString bs) row) file (book t l p end)
+      pub string-refused : going (o .status) ≡ false → {reply : Reply} → reply ≡ endedReply o → after reply [] t l p ≡ call (asking (putsString bs) row) file (book t l p end)
       unfolding call work askingWork bufferOf puttingString
       string-refused e q = call-refused [] o t l p (putCharacters row bs >> pure nothing) (put-from (putCharacters row bs >> pure nothing)) e q
 
-      pub string-put : going (o .ending) ≡ true → (y : Outcome) (t′ l′ p′ : List ℕ) → outcome y t′ l′ p′ ≡ putCharacters row bs (state (o .run) l p) t → {reply : Reply} → reply ≡ endedReply y → after reply [] t′ l′ p′ ≡ call (asking (putsString bs) row) file (book t l p end)
+      pub string-put : going (o .status) ≡ true → (y : Outcome) (t′ l′ p′ : List ℕ) → outcome y t′ l′ p′ ≡ putCharacters row bs (state (o .run) l p) t → {reply : Reply} → reply ≡ endedReply y → after reply [] t′ l′ p′ ≡ call (asking (putsString bs) row) file (book t l p end)
       unfolding call work askingWork bufferOf puttingString
       string-put e y t′ l′ p′ c q = call-worked [] o t l p _ (put-from (putCharacters row bs >> pure nothing)) (putCharacters row bs) (λ u t. refl) e y t′ l′ p′ c q
 
     module _ (b : ℕ) where
-      pub character-refused : going (o .ending) ≡ false → {reply : Reply} → reply ≡ endedReply o → after reply [] t l p ≡ call (asking (putsCharacter b) row) file (book t l p end)
+      pub character-refused : going (o .status) ≡ false → {reply : Reply} → reply ≡ endedReply o → after reply [] t l p ≡ call (asking (putsCharacter b) row) file (book t l p end)
       unfolding call work askingWork bufferOf puttingString
       character-refused e q = call-refused [] o t l p (putCharacters row (b ∷ []) >> pure nothing) (put-from (putCharacters row (b ∷ []) >> pure nothing)) e q
 
-      pub character-put : going (o .ending) ≡ true → (y : Outcome) (t′ l′ p′ : List ℕ) → outcome y t′ l′ p′ ≡ execute row (putCharacter b) (state (o .run) l p) t → {reply : Reply} → reply ≡ endedReply y → after reply [] t′ l′ p′ ≡ call (asking (putsCharacter b) row) file (book t l p end)
+      pub character-put : going (o .status) ≡ true → (y : Outcome) (t′ l′ p′ : List ℕ) → outcome y t′ l′ p′ ≡ execute row (putCharacter b) (state (o .run) l p) t → {reply : Reply} → reply ≡ endedReply y → after reply [] t′ l′ p′ ≡ call (asking (putsCharacter b) row) file (book t l p end)
       unfolding call work askingWork bufferOf puttingString putCharacters
       character-put e y t′ l′ p′ c q = call-worked [] o t l p _ (put-from (putCharacters row (b ∷ []) >> pure nothing)) (putCharacters row (b ∷ [])) (λ u t. refl) e y t′ l′ p′ (with-value tt y t′ l′ p′ (execute row (putCharacter b)) (state (o .run) l p) t c) q
 
@@ -50,11 +50,11 @@ module _ (row : List ℕ) (file : File) (end : Position) (t l p : List ℕ) wher
       integer-from : Leads (begin (needRow row >> (need 9 (λ _. not (lowest v)) >> (putting >> (putText row (wholeText v (pos 11)) >> pure nothing)))) start t) o (state (o .run) l p) t (putText row (wholeText v (pos 11)) >> pure nothing)
       integer-from = not-lowest-is row start t (not (lowest v)) (putting >> (putText row (wholeText v (pos 11)) >> pure nothing)) (ap not n) ∙ put-from (putText row (wholeText v (pos 11)) >> pure nothing)
 
-      pub integer-refused : going (o .ending) ≡ false → {reply : Reply} → reply ≡ endedReply o → after reply [] t l p ≡ call (asking (putsInteger v) row) file (book t l p end)
+      pub integer-refused : going (o .status) ≡ false → {reply : Reply} → reply ≡ endedReply o → after reply [] t l p ≡ call (asking (putsInteger v) row) file (book t l p end)
       unfolding call work askingWork bufferOf puttingInteger
       integer-refused e q = call-refused [] o t l p (putText row (wholeText v (pos 11)) >> pure nothing) integer-from e q
 
-      pub integer-put : going (o .ending) ≡ true → {w : ℤ} → w ≡ v → (y : Outcome) (t′ l′ p′ : List ℕ) → outcome y t′ l′ p′ ≡ putText row (wholeText w (pos 11)) (state (o .run) l p) t → {reply : Reply} → reply ≡ endedReply y → after reply [] t′ l′ p′ ≡ call (asking (putsInteger v) row) file (book t l p end)
+      pub integer-put : going (o .status) ≡ true → {w : ℤ} → w ≡ v → (y : Outcome) (t′ l′ p′ : List ℕ) → outcome y t′ l′ p′ ≡ putText row (wholeText w (pos 11)) (state (o .run) l p) t → {reply : Reply} → reply ≡ endedReply y → after reply [] t′ l′ p′ ≡ call (asking (putsInteger v) row) file (book t l p end)
       unfolding call work askingWork bufferOf puttingInteger
       integer-put e m y t′ l′ p′ c q = call-worked [] o t l p _ integer-from (putText row (wholeText v (pos 11))) (λ u t. refl) e y t′ l′ p′ (c ∙ ap (λ (z : ℤ). putText row (wholeText z (pos 11)) (state (o .run) l p) t) m) q
 
@@ -63,4 +63,4 @@ module _ (row : List ℕ) (file : File) (end : Position) (t l p : List ℕ) wher
   lowest-refused er {o = o} h v n q =
       let rest : Step Value = putting >> (putText row (wholeText v (pos 11)) >> pure nothing) in
       let k : o ≡ lowestBy row (length t) start = h ∙ ap (λ (x : Run). lowestBy row (length t) (state x l p)) er in
-      call-refused [] o t l p rest (leads-as start t rest k (lowest-leads row start t (not (lowest v)) rest (ap not n))) (ap (λ (x : Outcome). going (x .ending)) k ∙ lowest-halts row (length t) start) q
+      call-refused [] o t l p rest (leads-as start t rest k (lowest-leads row start t (not (lowest v)) rest (ap not n))) (ap (λ (x : Outcome). going (x .status)) k ∙ lowest-halts row (length t) start) q

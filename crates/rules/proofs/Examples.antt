@@ -14,9 +14,8 @@ use Rattle.rules.specs.declared.Position.{Position}
 use Rattle.rules.specs.declared.Rights.{Rights}
 use Rattle.rules.specs.declared.Shape.{Shape}
 use Rattle.rules.specs.declared.File.{File}
-use Rattle.rules.specs.declared.Ending.{Ending}
 use Rattle.rules.specs.Book.{within, place, before, pageLength, lineIndex, lineLength, characterIndex, inBounds, nextWord, kindOf, placeOf, mendingOf, answerOf, suggested, wordFits, allWordsFit, rowFits, legal, sizesFit, allUpTo, lengthsFit, someRight, moodsFit, shapeFits, bookFits, allFits}
-use Rattle.rules.specs.Step.{refusal, stopped, finished, _>>=_, pure, halt, attempt, look, change, branch, test, fileEnded, signal, moodOn, backspace, reset, characterHere, size, store, blanks, blankLine, blankLines, cutLine, cutPage, fillLine, fillPage, endLine, endPage}
+use Rattle.rules.specs.Step.{Ending, refusal, stopped, finished, _>>=_, pure, halt, attempt, look, change, branch, test, fileEnded, signal, moodOn, backspace, reset, characterHere, size, store, blanks, blankLine, blankLines, cutLine, cutPage, fillLine, fillPage, endLine, endPage}
 use Rattle.rules.specs.Steps.{printable, digit, fitsHere, signals, signalWhile, goodFileBody, goodPageBody, atPageEndBody, goodLineBody, atLineEndBody, newlineBody, newpageBody, setToBody, performBody, answeredBody, characterEvent, putCharacterBody, roomForBody, passBlanksBody, moreDigitsBody, spaceStep, setCharacterNumberBody, body, spent, supply, bounded, execute}
 use Rattle.rules.specs.Steps as Steps
 use Rattle.rules.specs.Whole.{digitsUpTo, signed, padded, wholeText, lowest, Written, whole}

@@ -9,12 +9,11 @@ use lib.IntN.{ℤ, pos, negsuc}
 use Rattle.rules.specs.declared.Position.{Position}
 use Rattle.rules.specs.declared.File.{File}
 use Rattle.rules.specs.declared.Run.{Run}
-use Rattle.rules.specs.declared.Ending.{Ending}
 use Rattle.rules.specs.declared.Given.{Given}
 use Rattle.rules.specs.declared.Given.the-variants.{Nothing, Character, Integer}
 use Rattle.rules.specs.declared.Reply.{Reply}
 use Rattle.rules.specs.Book.{choose, place, before, within, pageLength, lineLength, characterIndex, State, state, onRun, withLengths, here, endOf, shapeOf, rightsOf, fileWith, fileOpened, runWith, withFile, rewound, rowFits, shapeFits, bookFits, allFits, Event}
-use Rattle.rules.specs.Step.{Out, done, ends, Step, _>>=_, _>>_, pure, halt, refuse, refuseAt, stopped, finished, attempt, look, change, changeRun, branch, test, need, again, pass, moodOn, backspace, reset, characterHere, size}
+use Rattle.rules.specs.Step.{Ending, endingAs, Out, done, ends, Step, _>>=_, _>>_, pure, halt, refuse, refuseAt, stopped, finished, attempt, look, change, changeRun, branch, test, need, again, pass, moodOn, backspace, reset, characterHere, size}
 use Rattle.rules.specs.Steps.{Action, Gives, goodLine, newline, newpage, setTo, putCharacter, roomFor, passBlanks, moreDigits, setCharacterNumber, printable, digit, signals, characterEvent, spaceStep, execute}
 use Rattle.rules.specs.Whole.{wholeText, lowest}
 
@@ -421,7 +420,7 @@ run (k ∷ ks) f b =
 
 -- number, stop and value of each case of what is given
 abbrev pub endingOf : Given → Ending
-endingOf (Nothing e) = e
+endingOf (Nothing e) = endingAs e
 endingOf (Character b) = finished
 endingOf (Integer v) = finished
 

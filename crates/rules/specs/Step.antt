@@ -8,13 +8,17 @@ use lib.Dec.{leb, ltb, eqb}
 use Rattle.rules.specs.declared.Position.{Position}
 use Rattle.rules.specs.declared.Shape.{Shape}
 use Rattle.rules.specs.declared.Run.{Run}
-use Rattle.rules.specs.declared.Ending.{Ending}
+use Rattle.rules.specs.declared.Status.{Status}
 use Rattle.rules.specs.declared.Outcome.{Outcome}
 use Rattle.rules.specs.Book.{choose, place, before, nextCharacter, previousCharacter, nextLine, nextPage, Lengths, pageLength, lineIndex, lineLength, characterIndex, State, state, onRun, withLengths, here, endOf, shapeOf, rightsOf, pageHere, lineHere, withFile, withEnd, movedTo, bothMovedTo, inMood, rewound, Event, nextWord, signalledBy, Answer, answerOf}
 
 infixl 20 _>>=_
 infixl 20 _>>_
 -- ---- how a step ends the call: with the number of a refusal, or with the stop of a string
+
+pub record Ending : Type 0 where
+  pub number : ℕ
+  pub stop : ℕ
 
 abbrev pub refusal : ℕ → Ending
 refusal n = record { number = n; stop = 0 }
@@ -24,7 +28,7 @@ stopped n = record { number = 0; stop = n }
 
 -- number 0, "done"
 abbrev pub finished : Ending
-finished = record { number = 0; stop = 0 }
+finished = refusal 0
 
 -- A step takes the state and the characters of the book. It is done, with a value, or ends the call.
 pub data Out (A : Type 0) : Type 0 where
@@ -218,24 +222,34 @@ endPage = do
 
 -- ---- the code's outcome of a step, as an outcome
 
-abbrev pub going : Ending → Bool
+abbrev pub going : Status → Bool
 going e = choose (eqb (e .number) 0) (eqb (e .stop) 0) false
+
+-- what a status means
+abbrev pub endingAs : Status → Ending
+endingAs e = record { number = e .number; stop = e .stop }
+
+abbrev pub endingBy : Outcome → Ending
+endingBy o = endingAs (o .status)
 
 -- of a step that gives a value
 abbrev pub outcomeGiving : {A : Type 0} → A → Outcome → List ℕ → List ℕ → List ℕ → Out A
-outcomeGiving a o t l p = choose (going (o .ending)) (done a (state (o .run) l p) t) (ends (o .ending) (state (o .run) l p) t)
+outcomeGiving a o t l p = choose (going (o .status)) (done a (state (o .run) l p) t) (ends (endingBy o) (state (o .run) l p) t)
 
 abbrev pub outcome : Outcome → List ℕ → List ℕ → List ℕ → Out Unit
 outcome o t l p = outcomeGiving tt o t l p
 
-abbrev pub outcomeWith : Run → Ending → Outcome
-outcomeWith r e = record { run = r; ending = e }
+abbrev pub statusOf : ℕ → ℕ → Status
+statusOf number stop = record { number = number; stop = stop }
+
+abbrev pub outcomeWith : Run → Status → Outcome
+outcomeWith r e = record { run = r; status = e }
 
 abbrev pub doneBy : Run → Outcome
-doneBy r = outcomeWith r finished
+doneBy r = outcomeWith r (statusOf 0 0)
 
 abbrev pub refusedBy : Run → ℕ → Outcome
-refusedBy r n = outcomeWith r (refusal n)
+refusedBy r n = outcomeWith r (statusOf n 0)
 
 abbrev pub stoppedBy : Run → ℕ → Outcome
-stoppedBy r n = outcomeWith r (stopped n)
+stoppedBy r n = outcomeWith r (statusOf 0 n)

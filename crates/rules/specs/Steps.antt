@@ -8,9 +8,8 @@ use lib.ListN.{length}
 use lib.Dec.{leb, ltb, eqb}
 use Rattle.rules.specs.declared.Position.{Position}
 use Rattle.rules.specs.declared.Run.{Run}
-use Rattle.rules.specs.declared.Ending.{Ending}
 use Rattle.rules.specs.Book.{choose, before, within, inBounds, nextLine, nextPage, State, here, endOf, shapeOf, rightsOf, lineHere, movedTo, Event, logicalEnd, physicalEnd, pageEnd, lineEnd, Answer, isFalse, jump, isTrue, Mending, suggest, suggested}
-use Rattle.rules.specs.Step.{Step, _>>=_, _>>_, pure, halt, refuse, refuseAt, refusal, stopped, attempt, look, changeRun, branch, test, need, fileEnded, pageEnded, lineEnded, onEndPage, onEndLine, again, goTo, goToEnd, pass, signal, moodOn, backspace, reset, characterHere, store, endLine, endPage}
+use Rattle.rules.specs.Step.{Ending, Step, _>>=_, _>>_, pure, halt, refuse, refuseAt, refusal, stopped, attempt, look, changeRun, branch, test, need, fileEnded, pageEnded, lineEnded, onEndPage, onEndLine, again, goTo, goToEnd, pass, signal, moodOn, backspace, reset, characterHere, store, endLine, endPage}
 
 -- A step that may signal an event. A first Bool says whether the call is reading or writing; a second, whether the step belongs to
 -- a string, whose logical end and line end answered 0 are stops.

@@ -47,9 +47,9 @@ pub struct Run {
     pub taken: usize,
 }
 
-// How a step ends. Number 0 and stop 0: it is done, and the call goes on. Otherwise the number of a refusal, or the
+// How a step ended. Number 0 and stop 0: it is done, and the call goes on. Otherwise the number of a refusal, or the
 // stop of a string.
-pub struct Ending {
+pub struct Status {
     pub number: u8,
     pub stop: u8,
 }
@@ -57,12 +57,12 @@ pub struct Ending {
 // The running call after a step, and how the step ended.
 pub struct Outcome {
     pub run: Run,
-    pub ending: Ending,
+    pub status: Status,
 }
 
 // What a call gives: a character, an integer, or nothing but its number and stop.
 pub enum Given {
-    Nothing(Ending),
+    Nothing(Status),
     Character(u8),
     Integer(i32),
 }

@@ -1,8 +1,8 @@
 // Changes of the running call, the endings of a step, and the words of an answer row. Nothing here signals an event.
-use rules::Ending;
 use rules::Outcome;
 use rules::Position;
 use rules::Run;
+use rules::Status;
 ghost use mathlib.Core.Path.{_≡_};
 ghost use Prim.Native.Nat.{_<_, _^_};
 ghost use Rattle.rules.specs.Book.{place, movedTo, bothMovedTo, inMood, nextWord, signalledBy, kindOf, pageOf, lineOf, characterOf, placeOf, mendingOf, suggested};
@@ -51,7 +51,7 @@ pub fn finish(run: Run) -> Outcome
 {
     Outcome {
         run: run,
-        ending: Ending { number: 0, stop: 0 },
+        status: Status { number: 0, stop: 0 },
     }
 }
 
@@ -61,7 +61,7 @@ pub fn refused(run: Run, number: u8) -> Outcome
 {
     Outcome {
         run: run,
-        ending: Ending {
+        status: Status {
             number: number,
             stop: 0,
         },
@@ -74,7 +74,7 @@ pub fn stopped(run: Run, stop: u8) -> Outcome
 {
     Outcome {
         run: run,
-        ending: Ending {
+        status: Status {
             number: 0,
             stop: stop,
         },
@@ -83,10 +83,10 @@ pub fn stopped(run: Run, stop: u8) -> Outcome
 
 // Whether a step is done, and has not ended the call.
 pub fn goes_on(o: Outcome) -> bool
-    ensures { λ r. ⌜ r ≡ going (o .ending) ⌝ }
+    ensures { λ r. ⌜ r ≡ going (o .status) ⌝ }
 {
-    if o.ending.number == 0 {
-        o.ending.stop == 0
+    if o.status.number == 0 {
+        o.status.stop == 0
     } else {
         false
     }

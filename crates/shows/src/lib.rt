@@ -1,9 +1,9 @@
 // The line that a call writes.
-use rules::Ending;
 use rules::File;
 use rules::Given;
 use rules::Position;
 use rules::Reply;
+use rules::Status;
 
 // The number that a call gives.
 pub fn number_of(given: Given) -> u8 {
@@ -92,7 +92,7 @@ pub fn push_quiet(
     count: usize,
     bytes: &[u8],
 ) -> usize {
-    let ending = Ending {
+    let status = Status {
         number: number,
         stop: 0,
     };
@@ -102,7 +102,7 @@ pub fn push_quiet(
         events: 0,
         taken: 0,
         count: count,
-        given: Given::Nothing(ending),
+        given: Given::Nothing(status),
     };
     push_reply(out, name, reply, bytes)
 }

@@ -10,7 +10,7 @@ use lib.Seq.{sets, drop-set-lt, drop-drop}
 use Rattle.rules.specs.declared.Run.{Run}
 use Rattle.rules.specs.declared.Outcome.{Outcome}
 use Rattle.rules.specs.Book.{choose, characterIndex, State, state, onRun, here, shapeOf, lineHere, movedTo}
-use Rattle.rules.specs.Step.{Out, done, ends, going, outcomeGiving, outcome, doneBy, stopped, stoppedBy}
+use Rattle.rules.specs.Step.{endingBy, Out, done, ends, going, outcomeGiving, outcome, doneBy, stopped, stoppedBy}
 use Rattle.rules.specs.Steps.{putCharacter, passBlanks, printable, execute}
 use Rattle.rules.specs.Ready.{Ready}
 use Rattle.rules.specs.Calls.{Value, aString, putCharacters, stringCharacter, getCharacters}
@@ -60,7 +60,7 @@ stops-at a {r} {o} {t} {l} {p} h = ap (λ (x : Outcome). outcomeGiving a x t l p
 module _ (row bytes : List ℕ) (i : ℕ) (s : State) (t : List ℕ) (rd : Ready row (putCharacter 0) s) (h : i < length bytes) where
   pub put-one : {b : ℕ} → b ≡ getD bytes i 0 → (o : Outcome) (t′ l′ p′ : List ℕ) → outcome o t′ l′ p′ ≡ execute row (putCharacter b) s t → Put row bytes i s t o 1 t′ l′ p′
   put-one e o t′ l′ p′ c = record {
-    same = split (going (o .ending))
+    same = split (going (o .status))
         (λ g. left-one row bytes i s t rd h e (reached o c g) ∙ sym (pick-true _ _ g))
         (λ g. left-ends row bytes i s t rd h e (halted o c g) ∙ sym (pick-false _ _ g));
     ready = λ g. one-left-ready row bytes i s t rd h e (reached o c g);
@@ -80,20 +80,20 @@ module _ (row bytes : List ℕ) (i : ℕ) (s : State) (t : List ℕ) (rd : Ready
 
 -- the two ways on from a part
 module _ {row bytes : List ℕ} {i : ℕ} {s : State} {t : List ℕ} {o : Outcome} {n : ℕ} {t′ l′ p′ : List ℕ} (x : Put row bytes i s t o n t′ l′ p′) where
-  pub put-goes : going (o .ending) ≡ true → putCharacters row (drop i bytes) s t ≡ putCharacters row (drop (i + n) bytes) (state (o .run) l′ p′) t′
+  pub put-goes : going (o .status) ≡ true → putCharacters row (drop i bytes) s t ≡ putCharacters row (drop (i + n) bytes) (state (o .run) l′ p′) t′
   put-goes g = x .same ∙ pick-true _ _ g
 
-  pub put-halts : going (o .ending) ≡ false → putCharacters row (drop i bytes) s t ≡ ends (o .ending) (state (o .run) l′ p′) t′
+  pub put-halts : going (o .status) ≡ false → putCharacters row (drop i bytes) s t ≡ ends (endingBy o) (state (o .run) l′ p′) t′
   put-halts g = x .same ∙ pick-false _ _ g
 
 -- ---- get
 
 module _ (row terminators output : List ℕ) (i : ℕ) (s : State) (t : List ℕ) (rd : Ready row passBlanks s) (h : i < length output) where
-  pub got-none : (b : ℕ) (o : Outcome) (t′ l′ p′ : List ℕ) → outcomeGiving b o t′ l′ p′ ≡ stringCharacter row terminators s t → going (o .ending) ≡ false → Got row terminators output i s t o 0 output t′ l′ p′
+  pub got-none : (b : ℕ) (o : Outcome) (t′ l′ p′ : List ℕ) → outcomeGiving b o t′ l′ p′ ≡ stringCharacter row terminators s t → going (o .status) ≡ false → Got row terminators output i s t o 0 output t′ l′ p′
   got-none b o t′ l′ p′ c g =
       let z : i ≡ i + 0 = omega arith in
       record {
-        same = gets.left-ends row terminators (length output) i output s t h (gives-none b o c g) ∙ ap (λ (k : ℕ). done (aString (take k output) (o .ending)) (state (o .run) l′ p′) t′) z ∙ sym (pick-false _ _ g);
+        same = gets.left-ends row terminators (length output) i output s t h (gives-none b o c g) ∙ ap (λ (k : ℕ). done (aString (take k output) (endingBy o)) (state (o .run) l′ p′) t′) z ∙ sym (pick-false _ _ g);
         ready = λ k. absurd (no (sym k ∙ g));
         some = λ k. absurd (no (sym k ∙ g));
         within = omega arith;
@@ -103,7 +103,7 @@ module _ (row terminators output : List ℕ) (i : ℕ) (s : State) (t : List ℕ
       no : true ≡ false → ⊥
       no p = let o : _≡_ {A = ℕ} 0 1 = cc in omega arith
 
-  pub got-one : (b : ℕ) (o : Outcome) (t′ l′ p′ : List ℕ) → outcomeGiving b o t′ l′ p′ ≡ stringCharacter row terminators s t → going (o .ending) ≡ true → {output′ : List ℕ} → output′ ≡ set output i b → Got row terminators output i s t o 1 output′ t′ l′ p′
+  pub got-one : (b : ℕ) (o : Outcome) (t′ l′ p′ : List ℕ) → outcomeGiving b o t′ l′ p′ ≡ stringCharacter row terminators s t → going (o .status) ≡ true → {output′ : List ℕ} → output′ ≡ set output i b → Got row terminators output i s t o 1 output′ t′ l′ p′
   got-one b o t′ l′ p′ c g {output′} e = record {
     same = gets.left-one row terminators (length output) i output s t h (gives b o c g) h e ∙ sym (pick-true _ _ g);
     ready = λ _. gets.string-ready row terminators s t rd (gives b o c g);
@@ -124,10 +124,10 @@ module _ (row terminators output : List ℕ) (i : ℕ) (s : State) (t : List ℕ
       (record { same = x .0; ready = λ _. x .1; some = λ _. m; within = omega (arith, b, k); untouched = ap (drop (i + n)) ho ∙ past-sets (take n (drop at t)) output i (i + n) (simp length-take (omega arith)) })
 
 module _ {row terminators output : List ℕ} {i : ℕ} {s : State} {t : List ℕ} {o : Outcome} {n : ℕ} {output′ t′ l′ p′ : List ℕ} (x : Got row terminators output i s t o n output′ t′ l′ p′) where
-  pub got-goes : going (o .ending) ≡ true → gets.left row terminators (length output) i output s t ≡ gets.left row terminators (length output) (i + n) output′ (state (o .run) l′ p′) t′
+  pub got-goes : going (o .status) ≡ true → gets.left row terminators (length output) i output s t ≡ gets.left row terminators (length output) (i + n) output′ (state (o .run) l′ p′) t′
   got-goes g = x .same ∙ pick-true _ _ g
 
-  pub got-halts : going (o .ending) ≡ false → gets.left row terminators (length output) i output s t ≡ done (aString (take (i + n) output′) (o .ending)) (state (o .run) l′ p′) t′
+  pub got-halts : going (o .status) ≡ false → gets.left row terminators (length output) i output s t ≡ done (aString (take (i + n) output′) (endingBy o)) (state (o .run) l′ p′) t′
   got-halts g = x .same ∙ pick-false _ _ g
 
 -- ---- the loop of get: i characters stand in the output
@@ -154,18 +154,18 @@ module _ {row terminators output₀ : List ℕ} {s₀ : State} {t₀ output : Li
     past : drop (i + n) output′ ≡ drop (i + n) output₀
     past = x .untouched ∙ sym (drop-drop n i output) ∙ ap (drop n) (m .untouched) ∙ drop-drop n i output₀
 
-    pub getting-halts : going (o .ending) ≡ false
-        → (getCharacters row terminators (length output₀) [] s₀ t₀ ≡ done (aString (take (i + n) output′) (o .ending)) (state (o .run) l′ p′) t′) × (i + n ≤ length output₀) × (drop (i + n) output′ ≡ drop (i + n) output₀)
+    pub getting-halts : going (o .status) ≡ false
+        → (getCharacters row terminators (length output₀) [] s₀ t₀ ≡ done (aString (take (i + n) output′) (endingBy o)) (state (o .run) l′ p′) t′) × (i + n ≤ length output₀) × (drop (i + n) output′ ≡ drop (i + n) output₀)
     getting-halts g = (so-far ∙ got-halts x g, omega (arith, x .within, m .size), past)
 
     -- with no character more
-    pub getting-stops : n ≡ 0 → going (o .ending) ≡ false
-        → (getCharacters row terminators (length output₀) [] s₀ t₀ ≡ done (aString (take i output′) (o .ending)) (state (o .run) l′ p′) t′) × (i ≤ length output₀) × (drop i output′ ≡ drop i output₀)
+    pub getting-stops : n ≡ 0 → going (o .status) ≡ false
+        → (getCharacters row terminators (length output₀) [] s₀ t₀ ≡ done (aString (take i output′) (endingBy o)) (state (o .run) l′ p′) t′) × (i ≤ length output₀) × (drop i output′ ≡ drop i output₀)
     getting-stops z g =
         let e : i + n ≡ i = omega (arith, z) in
-        subst (λ (k : ℕ). (getCharacters row terminators (length output₀) [] s₀ t₀ ≡ done (aString (take k output′) (o .ending)) (state (o .run) l′ p′) t′) × (k ≤ length output₀) × (drop k output′ ≡ drop k output₀)) e (getting-halts g)
+        subst (λ (k : ℕ). (getCharacters row terminators (length output₀) [] s₀ t₀ ≡ done (aString (take k output′) (endingBy o)) (state (o .run) l′ p′) t′) × (k ≤ length output₀) × (drop k output′ ≡ drop k output₀)) e (getting-halts g)
 
-    pub getting-more : length output′ ≡ length output → going (o .ending) ≡ true → Getting row terminators output₀ s₀ t₀ output′ (i + n) (state (o .run) l′ p′) t′
+    pub getting-more : length output′ ≡ length output → going (o .status) ≡ true → Getting row terminators output₀ s₀ t₀ output′ (i + n) (state (o .run) l′ p′) t′
     getting-more k g = record {
       same = so-far ∙ got-goes x g ∙ ap (λ (k : ℕ). gets.left row terminators k (i + n) output′ (state (o .run) l′ p′) t′) (m .size);
       ready = x .ready g;

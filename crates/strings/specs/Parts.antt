@@ -6,7 +6,7 @@ use mathlib.Core.Bool.{Bool, true, false}
 use lib.ListN.{length, take, drop}
 use Rattle.rules.specs.declared.Outcome.{Outcome}
 use Rattle.rules.specs.Book.{choose, characterIndex, State, state, here, endOf, shapeOf, lineHere}
-use Rattle.rules.specs.Step.{Out, done, ends, going}
+use Rattle.rules.specs.Step.{endingBy, Out, done, ends, going}
 use Rattle.rules.specs.Steps.{putCharacter, passBlanks, rank, printable}
 use Rattle.laws.specs.Runs.{every, ordinary}
 use Rattle.rules.specs.Ready.{Ready}
@@ -34,16 +34,16 @@ pub record Takable (terminators : List ℕ) (s : State) (t : List ℕ) (limit n 
 
 -- of a string of which i characters are put, n more are put, or its put ends
 pub record Put (row bytes : List ℕ) (i : ℕ) (s : State) (t : List ℕ) (o : Outcome) (n : ℕ) (t′ l′ p′ : List ℕ) : Type 0 where
-  pub same : putCharacters row (drop i bytes) s t ≡ choose (going (o .ending)) (putCharacters row (drop (i + n) bytes) (state (o .run) l′ p′) t′) (ends (o .ending) (state (o .run) l′ p′) t′)
-  pub ready : going (o .ending) ≡ true → Ready row (putCharacter 0) (state (o .run) l′ p′)
+  pub same : putCharacters row (drop i bytes) s t ≡ choose (going (o .status)) (putCharacters row (drop (i + n) bytes) (state (o .run) l′ p′) t′) (ends (endingBy o) (state (o .run) l′ p′) t′)
+  pub ready : going (o .status) ≡ true → Ready row (putCharacter 0) (state (o .run) l′ p′)
   pub some : 0 < n
   pub within : i + n ≤ length bytes
 
 -- of a string of which i characters stand in the output, n more are got, or its get ends
 pub record Got (row terminators output : List ℕ) (i : ℕ) (s : State) (t : List ℕ) (o : Outcome) (n : ℕ) (output′ t′ l′ p′ : List ℕ) : Type 0 where
   pub same : getCharacters row terminators (length output - i) (take i output) s t
-      ≡ choose (going (o .ending)) (getCharacters row terminators (length output - (i + n)) (take (i + n) output′) (state (o .run) l′ p′) t′) (done (aString (take (i + n) output′) (o .ending)) (state (o .run) l′ p′) t′)
-  pub ready : going (o .ending) ≡ true → Ready row passBlanks (state (o .run) l′ p′)
-  pub some : going (o .ending) ≡ true → 0 < n
+      ≡ choose (going (o .status)) (getCharacters row terminators (length output - (i + n)) (take (i + n) output′) (state (o .run) l′ p′) t′) (done (aString (take (i + n) output′) (endingBy o)) (state (o .run) l′ p′) t′)
+  pub ready : going (o .status) ≡ true → Ready row passBlanks (state (o .run) l′ p′)
+  pub some : going (o .status) ≡ true → 0 < n
   pub within : i + n ≤ length output
   pub untouched : drop (i + n) output′ ≡ drop (i + n) output

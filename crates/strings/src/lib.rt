@@ -1,8 +1,8 @@
 // Strings put and got: a run of ordinary characters at once, any other character by itself.
 use lines::Taken;
-use rules::Ending;
 use rules::Outcome;
 use rules::Run;
+use rules::Status;
 ghost use mathlib.Core.Path.{_≡_};
 ghost use mathlib.Core.List.{[]};
 ghost use mathlib.Core.Bool.{true};
@@ -10,7 +10,7 @@ ghost use Prim.Native.Nat.{_+_, _-_, _≤_, _<_};
 ghost use lib.Dec.{T};
 ghost use lib.ListN.{length, take, drop};
 ghost use Rattle.rules.specs.Book.{state, rowFits};
-ghost use Rattle.rules.specs.Step.{done, outcomeGiving, outcome};
+ghost use Rattle.rules.specs.Step.{done, endingAs, outcomeGiving, outcome};
 ghost use Rattle.rules.specs.Steps.{Action, printable, execute};
 ghost use Rattle.rules.specs.Ready.{Ready, Valid};
 ghost use Rattle.rules.specs.Calls.{aString, putCharacters, takeCharacter, oneOf, stringCharacter, getCharacters};
@@ -25,7 +25,7 @@ ghost use Rattle.strings.specs.Parts.{Room, Storable, Takable};
 // What a string delivered: the running call after it, how it ended, and how many characters it got.
 pub struct Delivered {
     pub run: Run,
-    pub ending: Ending,
+    pub status: Status,
     pub count: usize,
 }
 
@@ -241,7 +241,7 @@ pub fn get_string(
 ) -> Delivered
     requires { ⌜ Ready (now row) Action.passBlanks (state run (now lines) (now pages)) ⌝ }
     requires { ⌜ T (rowFits (now row)) ⌝ }
-    ensures { λ r. ⌜ (getCharacters (now (row .entry)) (now (terminators .entry)) (length (now (output .entry))) [] (state run (now (lines .entry)) (now (pages .entry))) (now (text .entry)) ≡ done (aString (take (r .count) (now (output .exit))) (r .ending)) (state (r .run) (now (lines .exit)) (now (pages .exit))) (now (text .exit))) × (r .count ≤ length (now (output .entry))) × (drop (r .count) (now (output .exit)) ≡ drop (r .count) (now (output .entry))) ⌝ }
+    ensures { λ r. ⌜ (getCharacters (now (row .entry)) (now (terminators .entry)) (length (now (output .entry))) [] (state run (now (lines .entry)) (now (pages .entry))) (now (text .entry)) ≡ done (aString (take (r .count) (now (output .exit))) (endingAs (r .status))) (state (r .run) (now (lines .exit)) (now (pages .exit))) (now (text .exit))) × (r .count ≤ length (now (output .entry))) × (drop (r .count) (now (output .exit)) ≡ drop (r .count) (now (output .entry))) ⌝ }
 {
     let mut here = run;
     let mut i = 0;
@@ -251,11 +251,11 @@ pub fn get_string(
             let got = string_character(here, terminators, text, lines, pages, row);
             let after = got.outcome;
             let at = after.run;
-            let ending = after.ending;
+            let status = after.status;
             if !running::goes_on(after) {
                 return Delivered {
                     run: at,
-                    ending: ending,
+                    status: status,
                     count: i,
                 };
             }
@@ -269,7 +269,7 @@ pub fn get_string(
     }
     Delivered {
         run: here,
-        ending: Ending { number: 0, stop: 4 },
+        status: Status { number: 0, stop: 4 },
         count: i,
     }
 }

@@ -16,9 +16,8 @@ use Rattle.rules.specs.declared.Shape.{Shape}
 use Rattle.rules.specs.declared.Rights.{Rights}
 use Rattle.rules.specs.declared.File.{File}
 use Rattle.rules.specs.declared.Run.{Run}
-use Rattle.rules.specs.declared.Ending.{Ending}
 use Rattle.rules.specs.Book.{choose, place, before, within, inBounds, Lengths, lengths, pageLength, lineIndex, lineLength, characterIndex, State, onRun, here, endOf, shapeOf, rightsOf, withFile, fileOpened, rewound, Event, legal, sizesFit, allUpTo, lengthsFit, someRight, shapeFits, bookFits, moodsFit, allFits, rowFits}
-use Rattle.rules.specs.Step.{Out, done, ends, Step, _>>=_, andThen, caught, pure, halt, refuse, refusal, stopped, attempt, look, change, changeRun, branch, test, need, again, pass, moodOn, backspace, reset, size}
+use Rattle.rules.specs.Step.{Ending, Out, done, ends, Step, _>>=_, andThen, caught, pure, halt, refuse, refusal, stopped, attempt, look, change, changeRun, branch, test, need, again, pass, moodOn, backspace, reset, size}
 use Rattle.rules.specs.Steps.{Action, Gives, goodLine, newline, newpage, setTo, putCharacter, roomFor, passBlanks, moreDigits, setCharacterNumber, printable, digit, execute}
 use Rattle.rules.specs.Whole.{wholeText, lowest}
 use Rattle.rules.specs.Calls.{Value, nothing, aCharacter, anInteger, aView, aString, begin, needRow, turnable, turn, putting, getting, established, establishing, opening, closing, resetting, backspacing, shown, shownLength, shownPart, orMarker, viewing, viewNumber, putCharacters, puttingString, putText, puttingInteger, takeCharacter, gettingCharacter, oneOf, stringCharacter, getCharacters, gettingString, firstDigit, withSign, integerGiven, signBefore, takeInteger, gettingInteger, inMoodOn, spacing, newlining, newpaging, settingCharacterNumber, setting, Plain, establishes, opens, closes, resets, backspaces, views, viewNumbers, Asking, putsCharacter, putsString, putsInteger, getsCharacter, getsInteger, spaces, newlines, newpages, getsString, sets, setsCharacterNumber, Call, plain, asking, plainWork, askingWork, work}

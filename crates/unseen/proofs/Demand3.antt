@@ -5,9 +5,8 @@ use mathlib.Core.Bool.{Bool}
 use mathlib.Core.List.{List, [], _∷_}
 use lib.ListN.{length}
 use Rattle.rules.specs.declared.File.{File}
-use Rattle.rules.specs.declared.Ending.{Ending}
 use Rattle.rules.specs.Book.{State, endOf, runWith}
-use Rattle.rules.specs.Step.{Out, finished}
+use Rattle.rules.specs.Step.{Ending, Out, finished}
 use Rattle.rules.specs.Calls.{Value, nothing, aCharacter, anInteger, aView, aString, Call, work, bufferOf, Book, Result, After, enter, handBack, leave, call, Ran, run}
 use Rattle.rules.specs.Alike.{BooksAlike, RunsAlike, Demand3}
 use Rattle.unseen.proofs.Calls.{Loosely, LRel, lboth, lover, loose-work}

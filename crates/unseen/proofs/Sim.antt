@@ -11,9 +11,8 @@ use lib.Dec.{T}
 use Rattle.rules.specs.declared.Position.{Position}
 use Rattle.rules.specs.declared.Shape.{Shape}
 use Rattle.rules.specs.declared.Rights.{Rights}
-use Rattle.rules.specs.declared.Ending.{Ending}
 use Rattle.rules.specs.Book.{choose, Lengths, State, here, endOf, shapeOf, rightsOf, pageLength, lineLength, characterIndex, Event, Mending, Answer, isFalse, jump, isTrue}
-use Rattle.rules.specs.Step.{Out, done, ends, Step, _>>=_, pure, halt, refusal, look, change, test, branch, andThen, caught, attempt}
+use Rattle.rules.specs.Step.{Ending, Out, done, ends, Step, _>>=_, pure, halt, refusal, look, change, test, branch, andThen, caught, attempt}
 use Rattle.rules.specs.Steps.{upon, rank}
 use Rattle.rules.specs.Ready.{Rules}
 use Rattle.laws.proofs.Order.{Lt, Le, le-page, le-line, le-character, Pos1, lt-or-ge}
