@@ -69,14 +69,16 @@ typedef struct transput_file {
 
 /* What a call hands back beside the record. */
 typedef struct transput_result {
-    uint8_t number;        /* one of TRANSPUT_DONE .. TRANSPUT_OUTPUT_TOO_SHORT */
+    uint8_t number;        /* one of TRANSPUT_DONE .. TRANSPUT_PHYSICAL_END_UNMENDED */
     uint8_t stop;          /* why a get of a string stopped, one of TRANSPUT_NO_STOP .. TRANSPUT_OUTPUT_FULL */
     uint8_t given;         /* one of TRANSPUT_NOTHING, TRANSPUT_CHARACTER, TRANSPUT_INTEGER */
+    uint8_t event;         /* the event that a refusal ended in, one of TRANSPUT_EVENT_NONE .. TRANSPUT_EVENT_VALUE */
     int32_t value;         /* the character or the integer; 0 where nothing is given */
     size_t events;         /* events signalled */
     size_t taken;          /* answers taken from the row */
     size_t count;          /* characters that a get of a string delivered, also where it was refused in the end */
     transput_position end; /* the book's logical end after the call: pass it to the next one */
+    transput_position signalled; /* where that event was signalled; says nothing with TRANSPUT_EVENT_NONE */
 } transput_result;
 
 /* Where a line view lies: `count` characters from index `from` on, of the marker text or of the book's text. */
@@ -109,7 +111,8 @@ typedef struct transput_differences {
 } transput_differences;
 
 /* The number of a call: 0, or why it was refused. A refusal before work changes nothing; one during work, 4 and 5 inside an
- * answer too, leaves the steps that were done. */
+ * answer too, leaves the steps that were done. With 8, 11, 14 and 15 goes the event that ended the call, with 9 too where an integer
+ * was read, and with no other. 7 is retired: it was 14 and 15 in one; 13 is not used yet. */
 enum {
     TRANSPUT_DONE = 0,
     TRANSPUT_NOT_OPEN = 1,
@@ -118,12 +121,24 @@ enum {
     TRANSPUT_NO_RIGHT = 4,          /* the channel lacks the right */
     TRANSPUT_NO_MOOD = 5,           /* no mood is on, or the mood cannot be turned */
     TRANSPUT_OUT_OF_RANGE = 6,      /* a place or a width is out of range */
-    TRANSPUT_END_UNMENDED = 7,      /* the logical end or the physical end was met, and no answer mended it */
     TRANSPUT_BAD_CHARACTER = 8,     /* a character that cannot be put or got, and no answer gave another */
     TRANSPUT_BAD_VALUE = 9,         /* -2147483648 put, or an integer read that is above 2147483647 */
     TRANSPUT_LINE_TOO_SHORT = 10,   /* the line has no room for an integer */
     TRANSPUT_JUMPED = 11,           /* an answer of kind 8: the program jumped away */
-    TRANSPUT_OUTPUT_TOO_SHORT = 12  /* the output lent to whole, or the list lent to differ */
+    TRANSPUT_OUTPUT_TOO_SHORT = 12, /* the output lent to whole, or the list lent to differ */
+    TRANSPUT_LOGICAL_END_UNMENDED = 14, /* the logical end was met, and no answer mended it */
+    TRANSPUT_PHYSICAL_END_UNMENDED = 15 /* the physical end was met, and no answer mended it */
+};
+
+/* The events. Where an event inside an answer ended the call, that one is told. */
+enum {
+    TRANSPUT_EVENT_NONE = 0,
+    TRANSPUT_EVENT_LOGICAL_END = 1,  /* reading, or set: the book has no more text */
+    TRANSPUT_EVENT_PHYSICAL_END = 2, /* writing: the book has no more pages */
+    TRANSPUT_EVENT_PAGE_END = 3,
+    TRANSPUT_EVENT_LINE_END = 4,
+    TRANSPUT_EVENT_CHARACTER = 5,    /* a character that cannot be put or got; it is passed first where it is read */
+    TRANSPUT_EVENT_VALUE = 6         /* an integer too large; its text is passed first */
 };
 
 /* Why a get of a string stopped. Number 0 alone does not say that a string was read whole; the stop does. */

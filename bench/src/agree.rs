@@ -114,7 +114,7 @@ fn differs<L: Layer>(
 #[derive(Default)]
 pub struct Tally {
     pub calls: u64,
-    pub numbers: [u64; 13],
+    pub numbers: [u64; 16],
 }
 
 /// Plays so many random scripts on all sides.

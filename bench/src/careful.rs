@@ -140,6 +140,8 @@ impl<const IN_RUNS: bool> Layer for Careful<IN_RUNS> {
         Told {
             number: result.number,
             stop: result.stop,
+            event: result.signalled.map_or(0, |told| told.event as u8),
+            signalled: result.signalled.map(|told| told.at),
             given,
             value,
             events: result.events,

@@ -8,6 +8,9 @@ use crate::book::{Book, File, Position};
 pub struct Told {
     pub number: u8,
     pub stop: u8,
+    /// The number of the event that a refusal ended in, and where it was signalled.
+    pub event: u8,
+    pub signalled: Option<Position>,
     pub given: u8,
     pub value: i32,
     pub events: usize,

@@ -9,11 +9,13 @@ pub struct CallResult {
     number: u8,
     stop: u8,
     given: u8,
+    event: u8,
     value: i32,
     events: usize,
     taken: usize,
     count: usize,
     end: Position,
+    signalled: Position,
 }
 
 /// transput_view of the header.
@@ -276,6 +278,8 @@ impl Layer for Ours {
         Told {
             number: result.number,
             stop: result.stop,
+            event: result.event,
+            signalled: (result.event != 0).then_some(result.signalled),
             given: result.given,
             value: result.value,
             events: result.events,

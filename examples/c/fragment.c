@@ -1,8 +1,9 @@
 /* A small client of transput.h: it writes a fragment of a router's configuration into a book, shows its lines and reads them back.
  *
- * Three things to see in its output:
+ * Four things to see in its output:
  *  - an address that meets a line end is split by the default newline, and the put is done all the same;
  *  - number 0 does not say that a string was read whole: its stop does;
+ *  - a refusal that an event ended in says which event it was, and where;
  *  - an empty line is shown as the marker, so that no blank passes for nothing.
  */
 #include <stdio.h>
@@ -29,21 +30,42 @@ typedef struct fragment {
 
 static const char *refusal_words(uint8_t number) {
     static const char *const words[] = {
-        "done",
-        "the record is not open",
-        "the answers are bad",
-        "the record or the book is bad",
-        "the channel lacks the right",
-        "no mood is on, or it cannot be turned",
-        "a place or a width is out of range",
-        "the end was met, and no answer mended it",
-        "a character that cannot be put or got",
-        "an integer that is too large",
-        "the line is too short for an integer",
-        "the program jumped away",
-        "the output is too short",
+        [TRANSPUT_DONE] = "done",
+        [TRANSPUT_NOT_OPEN] = "the record is not open",
+        [TRANSPUT_BAD_ANSWERS] = "the answers are bad",
+        [TRANSPUT_BAD_BOOK] = "the record or the book is bad",
+        [TRANSPUT_NO_RIGHT] = "the channel lacks the right",
+        [TRANSPUT_NO_MOOD] = "no mood is on, or it cannot be turned",
+        [TRANSPUT_OUT_OF_RANGE] = "a place or a width is out of range",
+        [TRANSPUT_BAD_CHARACTER] = "a character that cannot be put or got",
+        [TRANSPUT_BAD_VALUE] = "an integer that is too large",
+        [TRANSPUT_LINE_TOO_SHORT] = "the line is too short for an integer",
+        [TRANSPUT_JUMPED] = "the program jumped away",
+        [TRANSPUT_OUTPUT_TOO_SHORT] = "the output is too short",
+        [TRANSPUT_LOGICAL_END_UNMENDED] = "no answer mended the logical end",
+        [TRANSPUT_PHYSICAL_END_UNMENDED] = "no answer mended the physical end",
     };
-    return number < sizeof words / sizeof words[0] ? words[number] : "unknown number";
+    bool known = number < sizeof words / sizeof words[0] && words[number] != NULL;
+    return known ? words[number] : "unknown number";
+}
+
+static const char *event_words(uint8_t event) {
+    switch (event) {
+    case TRANSPUT_EVENT_LOGICAL_END:
+        return "logical end";
+    case TRANSPUT_EVENT_PHYSICAL_END:
+        return "physical end";
+    case TRANSPUT_EVENT_PAGE_END:
+        return "page end";
+    case TRANSPUT_EVENT_LINE_END:
+        return "line end";
+    case TRANSPUT_EVENT_CHARACTER:
+        return "character";
+    case TRANSPUT_EVENT_VALUE:
+        return "value";
+    default:
+        return "none";
+    }
 }
 
 static const char *stop_words(uint8_t stop) {
@@ -67,7 +89,12 @@ static const char *stop_words(uint8_t stop) {
 static bool done(fragment *f, const char *call, transput_result result) {
     f->end = result.end;
     if (result.number != TRANSPUT_DONE) {
-        printf("  %s: refused %d, %s\n", call, result.number, refusal_words(result.number));
+        printf("  %s: refused %d, %s", call, result.number, refusal_words(result.number));
+        if (result.event != TRANSPUT_EVENT_NONE) {
+            transput_position at = result.signalled;
+            printf(" (%s at page %zu line %zu character %zu)", event_words(result.event), at.page, at.line, at.character);
+        }
+        printf("\n");
     }
     return result.number == TRANSPUT_DONE;
 }

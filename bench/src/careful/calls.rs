@@ -6,7 +6,7 @@ use super::places::{
     book_fits, line_length, mood_on, page_length, shape_fits, test_record, test_record_and_row,
     test_turn, turn,
 };
-use super::places::{Mood, Refusal};
+use super::places::{Mood, Refusal, Signalled};
 use crate::book::{Book, File, Position};
 
 /// What a call gives beside its number.
@@ -21,6 +21,7 @@ pub enum Given {
 pub struct Outcome {
     pub number: u8,
     pub stop: u8,
+    pub signalled: Option<Signalled>,
     pub given: Given,
     pub events: usize,
     pub taken: usize,
@@ -33,6 +34,7 @@ impl Outcome {
         Outcome {
             number,
             stop: 0,
+            signalled: None,
             given: Given::Nothing,
             events,
             taken,
@@ -59,7 +61,12 @@ impl Outcome {
         let mut outcome = Outcome::of(0, work.events, work.taken);
         match done {
             Ok(value) => fill(value, &mut outcome),
-            Err(refusal) => outcome.number = refusal as u8,
+            Err(refusal) => {
+                outcome.number = refusal as u8;
+                if refusal.ends_in_event() {
+                    outcome.signalled = work.last;
+                }
+            }
         }
         outcome
     }

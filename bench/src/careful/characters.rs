@@ -1,7 +1,7 @@
 //! Characters and strings put and got, one character after the other, and the layout steps that need a good line.
 
 use super::events::{Reply, Work};
-use super::places::{mood_on, Mood, Refusal};
+use super::places::{mood_on, Event, Mood, Refusal};
 use crate::book::Position;
 
 /// Why a get of a string stopped.
@@ -62,7 +62,7 @@ impl Work<'_> {
                 self.store(tried);
                 return Ok(());
             }
-            tried = match self.signal(Some(Mood::Writing))? {
+            tried = match self.signal(Event::Character, Some(Mood::Writing))? {
                 Reply::False => return Err(Refusal::BadCharacter),
                 Reply::True(suggested) => suggested.unwrap_or(b' '),
             };
@@ -87,7 +87,7 @@ impl Work<'_> {
         if is_printable(byte) {
             return Ok(byte);
         }
-        match self.signal(Some(Mood::Reading))? {
+        match self.signal(Event::Character, Some(Mood::Reading))? {
             Reply::False => Err(Refusal::BadCharacter),
             Reply::True(suggested) => Ok(suggested.unwrap_or(b' ')),
         }
@@ -115,7 +115,7 @@ impl Work<'_> {
             if !self.line_ended() {
                 return Ok(None);
             }
-            if self.signal(Some(Mood::Reading))? == Reply::False {
+            if self.signal(Event::LineEnd, Some(Mood::Reading))? == Reply::False {
                 return Ok(Some(Stop::LineEnded));
             }
         }

@@ -1,9 +1,12 @@
 //! A call at work: events and their answers, the good file, page and line, and the steps that an answer may ask for.
 
-use super::places::{in_bounds, line_length, mood_on, page_length, turn, Mood, Refusal};
+use super::places::{
+    in_bounds, line_length, mood_on, page_length, turn, Event, Mood, Refusal, Signalled,
+};
 use crate::book::{Book, File, Position};
 
-/// A call at work: the record, the book, the lent answers, and what was signalled and taken so far.
+/// A call at work: the record, the book, the lent answers, what was signalled and taken so far, and the last event. A refusal that an
+/// event ends in comes right after it, so the last one is the event.
 pub struct Work<'w> {
     pub file: &'w mut File,
     pub text: &'w mut [u8],
@@ -13,6 +16,7 @@ pub struct Work<'w> {
     pub row: &'w [u32],
     pub events: usize,
     pub taken: usize,
+    pub last: Option<Signalled>,
 }
 
 /// What the program answered to an event: false, or true with the character that it suggested.
@@ -34,6 +38,25 @@ impl<'w> Work<'w> {
             row,
             events: 0,
             taken: 0,
+            last: None,
+        }
+    }
+
+    /// The event of good file.
+    #[inline]
+    fn file_end(mood: Mood) -> Event {
+        match mood {
+            Mood::Reading => Event::LogicalEnd,
+            Mood::Writing => Event::PhysicalEnd,
+        }
+    }
+
+    /// Its refusal.
+    #[inline]
+    fn end_unmended(mood: Mood) -> Refusal {
+        match mood {
+            Mood::Reading => Refusal::LogicalEndUnmended,
+            Mood::Writing => Refusal::PhysicalEndUnmended,
         }
     }
 
@@ -83,8 +106,12 @@ impl<'w> Work<'w> {
     }
 
     /// Signals an event, which takes the next answer. After it the call's mood is set again; a set made with no mood has none.
-    pub fn signal(&mut self, mood: Option<Mood>) -> Result<Reply, Refusal> {
+    pub fn signal(&mut self, event: Event, mood: Option<Mood>) -> Result<Reply, Refusal> {
         self.events += 1;
+        self.last = Some(Signalled {
+            event,
+            at: self.file.position,
+        });
         let Some(&word) = self.row.get(self.taken) else {
             return Ok(Reply::False);
         };
@@ -122,7 +149,7 @@ impl<'w> Work<'w> {
     #[inline]
     fn good_file(&mut self, mood: Mood) -> Result<bool, Refusal> {
         while self.file_ended(mood) {
-            if self.signal(Some(mood))? == Reply::False {
+            if self.signal(Self::file_end(mood), Some(mood))? == Reply::False {
                 return Ok(false);
             }
         }
@@ -136,14 +163,14 @@ impl<'w> Work<'w> {
             if !self.page_ended() {
                 return Ok(true);
             }
-            if self.signal(Some(mood))? == Reply::False {
+            if self.signal(Event::PageEnd, Some(mood))? == Reply::False {
                 self.newpage()?;
             }
         }
         Ok(false)
     }
 
-    /// Good line, with the default of good file: refusal 7.
+    /// Good line, with the default of good file: refusal 14 or 15.
     #[inline]
     pub fn good_line(&mut self, mood: Mood) -> Result<(), Refusal> {
         if self.line_is_good(mood) {
@@ -159,11 +186,11 @@ impl<'w> Work<'w> {
             if !self.line_ended() {
                 return Ok(());
             }
-            if self.signal(Some(mood))? == Reply::False {
+            if self.signal(Event::LineEnd, Some(mood))? == Reply::False {
                 self.newline()?;
             }
         }
-        Err(Refusal::EndUnmended)
+        Err(Self::end_unmended(mood))
     }
 
     /// Blanks a line from a place on, to its own length.
@@ -208,7 +235,7 @@ impl<'w> Work<'w> {
                 return Ok(());
             }
         }
-        Err(Refusal::EndUnmended)
+        Err(Self::end_unmended(mood))
     }
 
     /// The writing end of a line: cut at the logical end, or filled with blanks.
@@ -236,7 +263,7 @@ impl<'w> Work<'w> {
                 return Ok(());
             }
         }
-        Err(Refusal::EndUnmended)
+        Err(Self::end_unmended(mood))
     }
 
     /// The writing end of a page: cut after the logical end's line (before it, if c = 1; not if the page was full), or blanked.
@@ -261,8 +288,8 @@ impl<'w> Work<'w> {
         if to > *self.end {
             let mood = mood_on(self.file);
             self.file.position = *self.end;
-            return match self.signal(mood)? {
-                Reply::False => Err(Refusal::EndUnmended),
+            return match self.signal(Event::LogicalEnd, mood)? {
+                Reply::False => Err(Refusal::LogicalEndUnmended),
                 Reply::True(_) => Ok(()),
             };
         }

@@ -1,7 +1,7 @@
 //! Integers put and got, and whole.
 
 use super::events::{Reply, Work};
-use super::places::{Mood, Refusal};
+use super::places::{Event, Mood, Refusal};
 
 /// The digits of a size at the end of a text; gives where they begin.
 #[inline]
@@ -74,7 +74,7 @@ impl Work<'_> {
             if character + needed <= length + 1 {
                 return Ok(needed);
             }
-            if self.signal(Some(Mood::Writing))? == Reply::False {
+            if self.signal(Event::LineEnd, Some(Mood::Writing))? == Reply::False {
                 self.newline()?;
             }
         }
@@ -108,7 +108,7 @@ impl Work<'_> {
         if byte.is_ascii_digit() {
             return Ok(byte);
         }
-        match self.signal(Some(Mood::Reading))? {
+        match self.signal(Event::Character, Some(Mood::Reading))? {
             Reply::False => Err(Refusal::BadCharacter),
             Reply::True(suggested) => Some(suggested.unwrap_or(b'0'))
                 .filter(u8::is_ascii_digit)
@@ -143,7 +143,7 @@ impl Work<'_> {
         if let Ok(size) = i32::try_from(size) {
             return Ok(Some(if sign == b'-' { -size } else { size }));
         }
-        match self.signal(Some(Mood::Reading))? {
+        match self.signal(Event::Value, Some(Mood::Reading))? {
             Reply::False => Err(Refusal::BadValue),
             Reply::True(_) => Ok(None),
         }

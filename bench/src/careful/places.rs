@@ -12,12 +12,47 @@ pub enum Refusal {
     NoRight = 4,
     NoMood = 5,
     OutOfRange = 6,
-    EndUnmended = 7,
     BadCharacter = 8,
     BadValue = 9,
     LineTooShort = 10,
     Jumped = 11,
     OutputTooShort = 12,
+    LogicalEndUnmended = 14,
+    PhysicalEndUnmended = 15,
+}
+
+impl Refusal {
+    /// Whether an event ends in it, of a call at work.
+    #[inline]
+    pub fn ends_in_event(self) -> bool {
+        matches!(
+            self,
+            Refusal::BadCharacter
+                | Refusal::BadValue
+                | Refusal::Jumped
+                | Refusal::LogicalEndUnmended
+                | Refusal::PhysicalEndUnmended
+        )
+    }
+}
+
+/// The events.
+#[derive(Clone, Copy, PartialEq, Eq, Debug)]
+#[repr(u8)]
+pub enum Event {
+    LogicalEnd = 1,
+    PhysicalEnd,
+    PageEnd,
+    LineEnd,
+    Character,
+    Value,
+}
+
+/// An event, and the position at which it was signalled.
+#[derive(Clone, Copy, PartialEq, Eq, Debug)]
+pub struct Signalled {
+    pub event: Event,
+    pub at: Position,
 }
 
 /// "Get calls turn read mood on and write mood off; put calls the reverse."

@@ -13,16 +13,18 @@ use Rattle.rules.specs.declared.Position.{Position}
 use Rattle.rules.specs.declared.File.{File}
 use Rattle.rules.specs.declared.Run.{Run}
 use Rattle.rules.specs.declared.Outcome.{Outcome}
-use Rattle.rules.specs.declared.Status.{Status}
 use Rattle.rules.specs.declared.Given.{Given}
 use Rattle.rules.specs.declared.Reply.{Reply}
 use Rattle.rules.specs.declared.Given.the-variants.{Nothing, Character, Integer}
+use Rattle.rules.specs.declared.Event.the-variants.{None}
+use Rattle.rules.specs.declared.Status.{Status}
 use Rattle.rules.specs.Book.{choose, State, state, onRun, runWith, inMood, rightsOf, rowFits, allFits}
-use Rattle.rules.specs.Step.{statusOf, endingBy, Out, done, ends, Step, _>>=_, _>>_, andThen, refuse, pure, refusal, finished, need, size, change, test, branch, halt, again, moodOn, going, outcomeGiving, outcomeWith, outcome, doneBy, refusedBy}
+use Rattle.rules.specs.Step.{endingBy, endingAs, statusOf, Ending, Out, done, ends, Step, _>>=_, _>>_, andThen, refuse, pure, refusal, finished, need, size, change, test, branch, halt, again, moodOn, going, outcomeGiving, outcomeWith, outcome, doneBy, refusedBy}
 use Rattle.rules.specs.Steps.{Action}
 use Rattle.rules.specs.Ready.{Ready, Valid}
-use Rattle.rules.specs.Calls.{Value, nothing, aCharacter, anInteger, After, begin, needRow, turnable, putting, getting, leave, after}
-use Rattle.laws.specs.Given.{givenOut}
+use Rattle.rules.specs.Calls.{Value, nothing, aCharacter, anInteger, After, begin, needRow, turnable, putting, getting, handBack, leave, after}
+use Rattle.laws.specs.Given.{isFinished, givenOut}
+use Rattle.laws.proofs.Given.{is-finished}
 use Rattle.laws.proofs.Ways.{bind-done, bind-ends, need-true, need-false, change-then, test-true, test-false, outcomeAt, with-value}
 use Rattle.laws.proofs.Entry.{call-ready}
 use Rattle.entry.specs.Before.{beforeWork, beforeAsking, mayDo, turnableBy, turnedBy, replyOf, refusedReply, endedReply}
@@ -272,23 +274,19 @@ module _ (row : List ℕ) (n : ℕ) (s : State) (taken : s .run .taken ≡ 0) (e
 
 -- ---- the end of a call as its reply
 
-going-finished : (e : Status) → going e ≡ true → e ≡ statusOf 0 0
-going-finished e h = let f : (e .number ≡ 0) × (e .stop ≡ 0) = both (e .number) (e .stop) h in ap (λ (n : ℕ). statusOf n (e .stop)) (f .0) ∙ ap (λ (n : ℕ). statusOf 0 n) (f .1)
-  where
-    no : false ≡ true → ⊥
-    no p = let z : _≡_ {A = ℕ} 0 1 = cc in omega arith
+-- a call that is refused, with its number
+pub reply-refused : (buffer : List ℕ) {x : Out Value} (r : Run) (n : ℕ) (t l p : List ℕ) → x ≡ ends (refusal n) (state r l p) t → after (refusedReply r n) buffer t l p ≡ leave buffer x
+unfolding leave
+reply-refused buffer r n t l p h = sym (ap (leave buffer) h)
 
-    both : (a b : ℕ) → choose (eqb a 0) (eqb b 0) false ≡ true → (a ≡ 0) × (b ≡ 0)
-    both a b = by (eqb a 0) refl
-      where
-        by : (c : Bool) → eqb a 0 ≡ c → choose c (eqb b 0) false ≡ true → (a ≡ 0) × (b ≡ 0)
-        by true p q = (eqb-true a 0 p, eqb-true b 0 q)
-        by false p q = absurd (no q)
+-- a call whose last step ended, or is done: all of its status is told, or nothing is
+reply-by : (o : Outcome) {b : Bool} → going (o .status) ≡ b → (buffer t l p : List ℕ) → after (endedReply o) buffer t l p ≡ after (replyOf (o .run) 0 (Nothing (choose b (statusOf 0 0 None) (o .status)))) buffer t l p
+reply-by o e buffer t l p = ap (λ (c : Bool). after (replyOf (o .run) 0 (Nothing (choose c (statusOf 0 0 None) (o .status)))) buffer t l p) e
 
 -- a call that ended before it gave anything
-pub reply-ends : (buffer : List ℕ) {x : Out Value} (o : Outcome) (t l p : List ℕ) → x ≡ ends (endingBy o) (state (o .run) l p) t → after (endedReply o) buffer t l p ≡ leave buffer x
+pub reply-ends : (buffer : List ℕ) {x : Out Value} (o : Outcome) (t l p : List ℕ) → going (o .status) ≡ false → x ≡ ends (endingBy o) (state (o .run) l p) t → after (endedReply o) buffer t l p ≡ leave buffer x
 unfolding leave
-reply-ends buffer o t l p h = sym (ap (leave buffer) h)
+reply-ends buffer o t l p e h = reply-by o e buffer t l p ∙ sym (ap (leave buffer) h)
 
 -- a call that gives nothing
 pub reply-nothing : (buffer : List ℕ) {x : Out Value} (o : Outcome) (t l p : List ℕ) → outcomeGiving nothing o t l p ≡ x → after (endedReply o) buffer t l p ≡ leave buffer x
@@ -296,8 +294,17 @@ unfolding leave
 reply-nothing buffer o t l p h = by (going (o .status)) refl ∙ ap (leave buffer) h
   where
     by : (b : Bool) → going (o .status) ≡ b → after (endedReply o) buffer t l p ≡ leave buffer (choose b (done nothing (state (o .run) l p) t) (ends (endingBy o) (state (o .run) l p) t))
-    by true e = ap (λ (x : Status). after (replyOf (o .run) 0 (Nothing x)) buffer t l p) (going-finished (o .status) e)
-    by false e = refl
+    by true e = reply-by o e buffer t l p
+    by false e = reply-by o e buffer t l p
+
+-- what is given as nothing, with its status
+reply-as : (buffer : List ℕ) {x : Out Value} (r : Run) (e : Status) (t l p : List ℕ) → givenOut r (Nothing e) t l p ≡ x → after (replyOf r 0 (Nothing e)) buffer t l p ≡ leave buffer x
+unfolding leave
+reply-as buffer r e t l p h = by (isFinished e) refl ∙ ap (leave buffer) h
+  where
+    by : (b : Bool) → isFinished e ≡ b → after (replyOf r 0 (Nothing e)) buffer t l p ≡ leave buffer (choose b (done nothing (state r l p) t) (ends (endingAs e (r .file .position)) (state r l p) t))
+    by true q = ap (λ (x : Ending). handBack x nothing [] buffer (state r l p) t) (is-finished e (r .file .position) q)
+    by false q = refl
 
 -- a call that gives a character, or an integer
 reply-character : (buffer : List ℕ) {x : Out Value} (r : Run) (b : ℕ) (t l p : List ℕ) → done (aCharacter b) (state r l p) t ≡ x → after (replyOf r 0 (Character b)) buffer t l p ≡ leave buffer x
@@ -310,7 +317,7 @@ reply-integer buffer r v t l p h = ap (leave buffer) h
 
 -- a call that may give one
 pub reply-given : (buffer : List ℕ) {x : Out Value} (r : Run) (g : Given) (t l p : List ℕ) → givenOut r g t l p ≡ x → after (replyOf r 0 g) buffer t l p ≡ leave buffer x
-reply-given buffer r (Nothing e) t l p h = reply-nothing buffer (outcomeWith r e) t l p h
+reply-given buffer r (Nothing e) t l p h = reply-as buffer r e t l p h
 reply-given buffer r (Character b) t l p h = reply-character buffer r b t l p h
 reply-given buffer r (Integer v) t l p h = reply-integer buffer r v t l p h
 
@@ -344,7 +351,7 @@ neither a b e f = rw (e, f)
 
 module _ (buffer : List ℕ) {x : Out Value} (o : Outcome) (t l p : List ℕ) (rest : Step Value) (h : Leads x o (state (o .run) l p) t rest) where
   pub call-refused : going (o .status) ≡ false → {reply : Reply} → reply ≡ endedReply o → after reply buffer t l p ≡ leave buffer x
-  call-refused e q = ap (λ (y : Reply). after y buffer t l p) q ∙ reply-ends buffer o t l p (leads-off o (state (o .run) l p) t rest h e)
+  call-refused e q = ap (λ (y : Reply). after y buffer t l p) q ∙ reply-ends buffer o t l p e (leads-off o (state (o .run) l p) t rest h e)
 
   -- with work that gives nothing
   module _ (f : Step (Unit {0})) (is : (u : State) (t : List ℕ) → rest u t ≡ (f >>= λ _. pure nothing) u t) where

@@ -2,6 +2,7 @@
 use Prim.Native.Nat.{ℕ, _+_, _*_, _≤_, _^_}
 use native.Mathlib.Omega.{arith}
 use mathlib.Core.Path.{_≡_}
+use mathlib.Core.Bool.{true}
 use mathlib.Core.List.{List}
 use lib.Dec.{T}
 use lib.ListN.{length}
@@ -9,6 +10,7 @@ use Rattle.rules.specs.Book.{State, here, rowFits, allFits}
 use Rattle.rules.specs.Step.{Ending, finished}
 use Rattle.rules.specs.Steps.{Action, spent, execute}
 use Rattle.rules.specs.Ready.{Valid, Ready}
+use Rattle.rules.specs.Told.{known}
 use Rattle.rules.specs.Calls.{Value, nothing, aCharacter, anInteger, aView, aString}
 use Rattle.laws.proofs.Validity.{Near, near-at}
 use Rattle.laws.proofs.Progress.{Gain, Answered, Done, stage-le, ready-on, gain-none, gain-trans, gain-less}
@@ -16,6 +18,7 @@ use Rattle.laws.proofs.Walk.{Ended, At, at-weak}
 use Rattle.laws.proofs.Unfolding.{On, execute-post}
 use Rattle.laws.proofs.Gets.{post-at}
 use Rattle.laws.proofs.Entry.{fits-facts, row-short, ready-any}
+use Rattle.bounded.specs.Tells.{Tells, together}
 
 -- ---- what is shown of every way out
 
@@ -27,7 +30,7 @@ pub record Counted (row : List ℕ) (u : State) : Type 0 where
 
 -- where a step ends the call
 pub record Over (row : List ℕ) (e : Ending) (u : State) : Type 0 where
-  pub known : e .number ≤ 12
+  pub tells : Tells e (u .run .events)
   pub counted : Counted row u
 
 -- how a call with this value ends
@@ -40,7 +43,7 @@ endedWith (aString bs e) = e
 
 -- where the work is done
 pub record Given (row : List ℕ) (v : Value) (u : State) : Type 0 where
-  pub known : endedWith v .number ≤ 12
+  pub tells : Tells (endedWith v) (u .run .events)
   pub counted : Counted row u
 
 -- ---- where the work starts, and where it has come to
@@ -71,8 +74,8 @@ pub record Moved (row : List ℕ) (s u : State) : Type 0 where
 pub quiet-counted : (row : List ℕ) (s : State) → Quiet s → Counted row s
 quiet-counted row s q = record { took = omega (arith, q .taken); short = omega (arith, q .taken); few = omega (arith, q .events, q .taken) }
 
-pub quiet-over : (row : List ℕ) (s : State) (e : Ending) → Quiet s → e .number ≤ 12 → Over row e s
-quiet-over row s e q k = record { known = k; counted = quiet-counted row s q }
+pub quiet-over : (row : List ℕ) (s : State) (e : Ending) → Quiet s → known e ≡ true → Over row e s
+quiet-over row s e q k = record { tells = together k; counted = quiet-counted row s q }
 
 pub start-of : (row : List ℕ) (n : ℕ) (s : State) → Quiet s → T (allFits n s) → T (rowFits row) → Start row s
 start-of row n s q f r = record { quiet = q; valid = fits-facts n s f .valid; short = row-short row r }
@@ -106,7 +109,7 @@ module _ {row : List ℕ} {s : State} (st : Start row s) where
 
   pub come-over : {u v : State} {e : Ending} {action : Action} → Come row s u → Ended row action u e v → Over row e v
   come-over {u} {v} {e} {action} c x = record {
-    known = x .known;
+    tells = together (x .told);
     counted = record { took = x .took; short = omega (arith, x .took, st .short); few = omega (arith, x .counted, c .gain .gains, st .quiet .events, stage-le action) };
   }
 
@@ -114,7 +117,7 @@ module _ {row : List ℕ} {s : State} (st : Start row s) where
   pub moved-over : {u v : State} {e : Ending} {action : Action} → Moved row s u → Ended row action u e v → Over row e v
   unfolding spent
   moved-over {u} {v} {e} {action} m x = record {
-    known = x .known;
+    tells = together (x .told);
     counted = record { took = x .took; short = omega (arith, x .took, st .short); few = omega (arith, x .counted, m .heard .gains, st .quiet .events, stage-le action) };
   }
 

@@ -1,7 +1,7 @@
 -- The walk of every call's work: at each way out the number is one of document 01's and the counts are small. Assumes nothing.
 use Prim.Native.Nat.{ℕ, zero, suc, _-_, _≤_}
 use native.Mathlib.Omega.{arith}
-use mathlib.Core.Path.{refl, _∙_}
+use mathlib.Core.Path.{_≡_, refl, _∙_}
 use mathlib.Core.List.{List, [], _∷_, _++_}
 use mathlib.Core.Bool.{Bool, true, false, not, _||_}
 use lib.Dec.{T, leb, eqb}
@@ -12,6 +12,7 @@ use Rattle.rules.specs.Book.{State, onRun, here, rightsOf, inMood, rowFits, sha
 use Rattle.rules.specs.Step.{Ending, Step, _>>=_, pure, refusal, stopped, size}
 use Rattle.rules.specs.Steps.{goodLine, newline, newpage, setTo, putCharacter, roomFor, passBlanks, moreDigits, setCharacterNumber}
 use Rattle.rules.specs.Whole.{wholeText, lowest}
+use Rattle.rules.specs.Told.{known}
 use Rattle.rules.specs.Calls.{Value, nothing, aCharacter, anInteger, aView, aString, begin, needRow, turnable, turn, putting, getting, established, establishing, opening, closing, resetting, backspacing, shown, shownPart, orMarker, viewing, viewNumber, withSign, putCharacters, puttingString, putText, puttingInteger, gettingCharacter, getCharacters, gettingString, integerGiven, takeInteger, gettingInteger, inMoodOn, spacing, newlining, newpaging, settingCharacterNumber, setting, Plain, establishes, opens, closes, resets, backspaces, views, viewNumbers, Asking, putsCharacter, putsString, putsInteger, getsCharacter, getsInteger, spaces, newlines, newpages, getsString, sets, setsCharacterNumber, Call, plain, asking, plainWork, askingWork, work}
 use Rattle.bounded.specs.Row.{rowOf}
 use Rattle.laws.proofs.Order.{is-yes}
@@ -21,6 +22,7 @@ use Rattle.laws.proofs.Unfolding.{On, space-post, signals-post}
 use Rattle.laws.proofs.Gets.{post-at, take-post, string-post}
 use Rattle.laws.proofs.Numbers.{sign-post, first-post}
 use Rattle.laws.proofs.Entry.{fits-facts}
+use Rattle.bounded.specs.Tells.{together, early}
 use Rattle.bounded.proofs.Counts.{Counted, Over, Given, Quiet, Start, Come, Moved, quiet-counted, quiet-over, start-of, come-start, come-more, start-ready, come-ready, moved-ready, come-counted, moved-counted, come-over, moved-over, moved-on, at-execute}
 
 -- a step, with what is shown of it
@@ -37,28 +39,28 @@ at-size s t h = let r = h (length t) in record { same = r .same; post = r .post 
 at-begin : {A : Type 0} {row : List ℕ} {R : A → State → Type 0} {rest : Step A} (s : State) (t : List ℕ) → Quiet s → ((n : ℕ) → T (allFits n s) → At (Over row) R rest rest s t) → At (Over row) R (begin rest) (begin rest) s t
 unfolding begin
 at-begin {row = row} s t q h = at-need 1 (λ s. s .run .file .opened) s t
-    (λ _ _. at-size s t λ n. at-need 3 (allFits n) s t (λ f _. h n (is-yes _ f)) (λ _. quiet-over row s (refusal 3) q (omega arith)))
-    (λ _. quiet-over row s (refusal 1) q (omega arith))
+    (λ _ _. at-size s t λ n. at-need 3 (allFits n) s t (λ f _. h n (is-yes _ f)) (λ _. quiet-over row s (refusal 3) q refl))
+    (λ _. quiet-over row s (refusal 1) q refl)
 
 -- of a call that lends answers
 at-asking : (row : List ℕ) {rest : Step Value} (s : State) (t : List ℕ) → Quiet s → (Start row s → Sound row rest s t) → Sound row (begin (needRow row >>= λ _. rest)) s t
-at-asking row s t q h = at-begin s t q λ n f. at-need 2 (λ _. rowFits row) s t (λ r _. h (start-of row n s q f (is-yes _ r))) (λ _. quiet-over row s (refusal 2) q (omega arith))
+at-asking row s t q h = at-begin s t q λ n f. at-need 2 (λ _. rowFits row) s t (λ r _. h (start-of row n s q f (is-yes _ r))) (λ _. quiet-over row s (refusal 2) q refl)
 
 start-mood : {row : List ℕ} {s : State} (reading : Bool) → Start row s → Start row (onRun s (inMood (s .run) reading))
 start-mood reading st = record { quiet = record { events = st .quiet .events; taken = st .quiet .taken }; valid = st .valid; short = st .short }
 
 module _ (row : List ℕ) where
-  start-over : {s : State} (n : ℕ) → Start row s → n ≤ 12 → Over row (refusal n) s
+  start-over : {s : State} (n : ℕ) → Start row s → known (refusal n) ≡ true → Over row (refusal n) s
   start-over {s} n st k = quiet-over row s (refusal n) (st .quiet) k
 
   at-turn : (reading : Bool) (s : State) (t : List ℕ) → Start row s → At (Over row) (λ _ u. Start row u) (turn reading) (turn reading) s t
-  at-turn reading s t st = at-need 5 (turnable reading) s t (λ _ _. at-change _ _ (start-mood reading st)) (λ _. start-over 5 st (omega arith))
+  at-turn reading s t st = at-need 5 (turnable reading) s t (λ _ _. at-change _ _ (start-mood reading st)) (λ _. start-over 5 st refl)
 
   at-putting : (s : State) (t : List ℕ) → Start row s → At (Over row) (λ _ u. Start row u) putting putting s t
-  at-putting s t st = at-need 4 (λ s. rightsOf s .put) s t (λ _ _. at-turn false s t st) (λ _. start-over 4 st (omega arith))
+  at-putting s t st = at-need 4 (λ s. rightsOf s .put) s t (λ _ _. at-turn false s t st) (λ _. start-over 4 st refl)
 
   at-getting : (s : State) (t : List ℕ) → Start row s → At (Over row) (λ _ u. Start row u) getting getting s t
-  at-getting s t st = at-need 4 (λ s. rightsOf s .get) s t (λ _ _. at-turn true s t st) (λ _. start-over 4 st (omega arith))
+  at-getting s t st = at-need 4 (λ s. rightsOf s .get) s t (λ _ _. at-turn true s t st) (λ _. start-over 4 st refl)
 
   -- ---- put
 
@@ -68,7 +70,7 @@ module _ (row : List ℕ) where
   at-characters (b ∷ bs) t st c = at-bind (at-execute st c (putCharacter b) t) λ _ v t d. at-characters bs t st (come-more c (d .valid) (d .took) (d .claim))
 
   at-nothing : {s u : State} (t : List ℕ) → Start row s → Come row s u → Sound row (pure nothing) u t
-  at-nothing t st c = at-pure _ nothing (record { known = omega arith; counted = come-counted st c })
+  at-nothing t st c = at-pure _ nothing (record { tells = together refl; counted = come-counted st c })
 
   at-puttingString : (bs : List ℕ) (s : State) (t : List ℕ) → Quiet s → Sound row (puttingString row bs) s t
   unfolding puttingString
@@ -88,7 +90,7 @@ module _ (row : List ℕ) where
   unfolding puttingInteger
   at-puttingInteger v s t q = at-asking row s t q λ st. at-need 9 (λ _. not (lowest v)) s t
       (λ _ _. at-bind (at-putting s t st) λ _ u t st′. at-bind (at-text (wholeText v (pos 11)) t st′) λ _ w t c. at-nothing t st′ c)
-      (λ _. start-over 9 st (omega arith))
+      (λ _. record { tells = early refl (st .quiet .events); counted = quiet-counted row s (st .quiet) })
 
   -- ---- get
 
@@ -98,14 +100,14 @@ module _ (row : List ℕ) where
       at-bind (at-execute st′ (come-start st′) (goodLine true false) t) λ _ v t d.
       let c : Come row u v = come-more (come-start st′) (d .valid) (d .took) (d .claim .0) in
       at-bind (at-weak (λ e w x. come-over st′ c x) (λ _ w o. o) (post-at (take-post row passBlanks v (come-ready st′ c passBlanks) (omega arith) (d .claim .1) t))) λ b w t o.
-      at-pure _ (aCharacter b) (record { known = omega arith; counted = come-counted st′ (come-more c (o .valid) (o .took) (o .gain)) })
+      at-pure _ (aCharacter b) (record { tells = together refl; counted = come-counted st′ (come-more c (o .valid) (o .took) (o .gain)) })
 
   at-string : (terminators : List ℕ) (room : ℕ) (bs : List ℕ) {s u : State} (t : List ℕ) → Start row s → Come row s u → Sound row (getCharacters row terminators room bs) u t
   unfolding getCharacters
-  at-string terminators zero bs t st c = at-pure _ (aString bs (stopped 4)) (record { known = omega arith; counted = come-counted st c })
+  at-string terminators zero bs t st c = at-pure _ (aString bs (stopped 4)) (record { tells = together refl; counted = come-counted st c })
   at-string terminators (suc room) bs {s} {u} t st c =
       at-attempt {F = Over row} {Q = λ _ v. On row u v} (at-weak (λ e v x. come-over st c x) (λ _ v o. o) (post-at (string-post row terminators passBlanks u t (come-ready st c passBlanks) (omega arith))))
-      (λ e v t x. at-pure _ (aString bs e) (record { known = x .known; counted = x .counted }))
+      (λ e v t x. at-pure _ (aString bs e) (record { tells = x .tells; counted = x .counted }))
       (λ b v t o. at-string terminators room (bs ++ (b ∷ [])) t st (come-more c (o .valid) (o .took) (o .gain)))
 
   at-gettingString : (terminators : List ℕ) (room : ℕ) (s : State) (t : List ℕ) → Quiet s → Sound row (gettingString row terminators room) s t
@@ -115,9 +117,9 @@ module _ (row : List ℕ) where
   at-given : (minus : Bool) (n : ℕ) {s u : State} (t : List ℕ) → Start row s → Moved row s u → Sound row (integerGiven row minus n) u t
   unfolding integerGiven
   at-given minus n {s} {u} t st m = at-branch (leb n 2147483647)
-      (λ _. at-pure _ (anInteger (withSign minus n)) (record { known = omega arith; counted = moved-counted st m }))
-      (λ _. at-bind (at-weak (λ e v x. moved-over st m x) (λ _ v o. o) (post-at (signals-post row passBlanks Event.value true 9 u t (moved-ready st m passBlanks) (omega arith) (omega arith)))) λ _ v t o.
-      at-pure _ nothing (record { known = omega arith; counted = moved-on st m o }))
+      (λ _. at-pure _ (anInteger (withSign minus n)) (record { tells = together refl; counted = moved-counted st m }))
+      (λ _. at-bind (at-weak (λ e v x. moved-over st m x) (λ _ v o. o) (post-at (signals-post row passBlanks Event.value true 9 u t (moved-ready st m passBlanks) (omega arith) refl))) λ _ v t o.
+      at-pure _ nothing (record { tells = together refl; counted = moved-on st m o }))
 
   at-integer : {s : State} (t : List ℕ) → Start row s → Sound row (takeInteger row) s t
   unfolding takeInteger
@@ -137,8 +139,8 @@ module _ (row : List ℕ) where
 
   at-inMood : {step : Bool → Step (Unit {0})} (s : State) (t : List ℕ) → Quiet s → (Start row s → (r : Bool) (t : List ℕ) → At (Over row) (λ _ u. Counted row u) (step r) (step r) s t) → Sound row (inMoodOn row step) s t
   at-inMood s t q h = at-asking row s t q λ st. at-mood s t
-      (λ r t. at-bind (h st r t) λ _ u t c. at-pure _ nothing (record { known = omega arith; counted = c }))
-      (start-over 5 st (omega arith))
+      (λ r t. at-bind (h st r t) λ _ u t c. at-pure _ nothing (record { tells = together refl; counted = c }))
+      (start-over 5 st refl)
 
   at-spacing : (s : State) (t : List ℕ) → Quiet s → Sound row (spacing row) s t
   unfolding spacing
@@ -167,8 +169,8 @@ module _ (row : List ℕ) where
       at-bind (at-execute st (come-start st) (setTo x) t) λ _ u t d.
       let c : Counted row u = moved-counted st (record { valid = d .valid; took = d .took; heard = d .claim }) in
       at-bind {Q = λ _ v. Counted row v} (at-branch (reading || writing) (λ _. at-change _ _ (counted-mood reading c)) (λ _. at-pure _ tt c)) λ _ v t c′.
-      at-pure _ nothing (record { known = omega arith; counted = c′ }))
-      (λ _. start-over 4 st (omega arith))
+      at-pure _ nothing (record { tells = together refl; counted = c′ }))
+      (λ _. start-over 4 st refl)
 
   at-askingWork : (k : Asking) (s : State) (t : List ℕ) → Quiet s → Sound row (askingWork row k) s t
   unfolding askingWork
@@ -187,7 +189,7 @@ module _ (row : List ℕ) where
 -- ---- calls that take no answers
 
 quiet-nothing : (s : State) → Quiet s → Given [] nothing s
-quiet-nothing s q = record { known = omega arith; counted = quiet-counted [] s q }
+quiet-nothing s q = record { tells = together refl; counted = quiet-counted [] s q }
 
 still-quiet : {s u : State} → Quiet s → Still s u → Quiet u
 still-quiet q x = record { events = x .events ∙ q .events; taken = x .taken ∙ q .taken }
@@ -197,14 +199,14 @@ unfolding establishing established
 at-establishing s t q = at-size s t λ n. at-need 3 (shapeFits n) s t
     (λ _ _. at-need 4 (λ s. rightsOf s .put) s t
     (λ _ _. at-bind {Q = λ _ u. Quiet u} (at-change _ _ (record { events = q .events; taken = q .taken })) λ _ u t q′. at-pure _ nothing (quiet-nothing u q′))
-    (λ _. quiet-over [] s (refusal 4) q (omega arith)))
-    (λ _. quiet-over [] s (refusal 3) q (omega arith))
+    (λ _. quiet-over [] s (refusal 4) q refl))
+    (λ _. quiet-over [] s (refusal 3) q refl)
 
 at-opening : (s : State) (t : List ℕ) → Quiet s → Sound [] opening s t
 unfolding opening
 at-opening s t q = at-size s t λ n. at-need 3 (bookFits n) s t
     (λ _ _. at-bind {Q = λ _ u. Quiet u} (at-change _ _ (record { events = q .events; taken = q .taken })) λ _ u t q′. at-pure _ nothing (quiet-nothing u q′))
-    (λ _. quiet-over [] s (refusal 3) q (omega arith))
+    (λ _. quiet-over [] s (refusal 3) q refl)
 
 at-closing : (s : State) (t : List ℕ) → Quiet s → Sound [] closing s t
 unfolding closing
@@ -212,11 +214,11 @@ at-closing s t q = at-begin s t q λ _ _. at-bind {Q = λ _ u. Quiet u} (at-chan
 
 at-resetting : (s : State) (t : List ℕ) → Quiet s → Sound [] resetting s t
 unfolding resetting
-at-resetting s t q = at-begin s t q λ n f. at-bind (at-reset s t (fits-facts n s f .valid) (quiet-over [] s (refusal 4) q (omega arith))) λ _ u t x. at-pure _ nothing (quiet-nothing u (still-quiet q x))
+at-resetting s t q = at-begin s t q λ n f. at-bind (at-reset s t (fits-facts n s f .valid) (quiet-over [] s (refusal 4) q refl)) λ _ u t x. at-pure _ nothing (quiet-nothing u (still-quiet q x))
 
 at-backspacing : (s : State) (t : List ℕ) → Quiet s → Sound [] backspacing s t
 unfolding backspacing
-at-backspacing s t q = at-begin s t q λ n f. at-bind (at-backspace s t (fits-facts n s f .valid) (quiet-over [] s (refusal 6) q (omega arith))) λ _ u t x. at-pure _ nothing (quiet-nothing u (still-quiet q x))
+at-backspacing s t q = at-begin s t q λ n f. at-bind (at-backspace s t (fits-facts n s f .valid) (quiet-over [] s (refusal 6) q refl)) λ _ u t x. at-pure _ nothing (quiet-nothing u (still-quiet q x))
 
 at-shownPart : (p l : ℕ) (s : State) (t : List ℕ) → Quiet s → At (Over []) (λ _ u. Counted [] u) (shownPart p l) (shownPart p l) s t
 unfolding shownPart
@@ -225,13 +227,13 @@ at-shownPart p l s t q = record { same = refl; post = post-done (quiet-counted [
 at-viewing : (p l : ℕ) (marker : List ℕ) (s : State) (t : List ℕ) → Quiet s → Sound [] (viewing p l marker) s t
 unfolding viewing
 at-viewing p l marker s t q = at-attempt {F = Over []} {Q = λ _ u. Counted [] u}
-    (at-begin s t q λ _ _. at-need 6 (shown p l) s t (λ _ _. at-shownPart p l s t q) (λ _. quiet-over [] s (refusal 6) q (omega arith)))
-    (λ e u t x. at-pure _ (aView []) (record { known = omega arith; counted = x .counted }))
-    (λ part u t c. at-pure _ (aView (orMarker part marker)) (record { known = omega arith; counted = c }))
+    (at-begin s t q λ _ _. at-need 6 (shown p l) s t (λ _ _. at-shownPart p l s t q) (λ _. quiet-over [] s (refusal 6) q refl))
+    (λ e u t x. at-pure _ (aView []) (record { tells = together refl; counted = x .counted }))
+    (λ part u t c. at-pure _ (aView (orMarker part marker)) (record { tells = together refl; counted = c }))
 
 at-viewNumber : (p l : ℕ) (s : State) (t : List ℕ) → Quiet s → Sound [] (viewNumber p l) s t
 unfolding viewNumber
-at-viewNumber p l s t q = at-begin s t q λ _ _. at-need 6 (shown p l) s t (λ _ _. at-pure _ nothing (quiet-nothing s q)) (λ _. quiet-over [] s (refusal 6) q (omega arith))
+at-viewNumber p l s t q = at-begin s t q λ _ _. at-need 6 (shown p l) s t (λ _ _. at-pure _ nothing (quiet-nothing s q)) (λ _. quiet-over [] s (refusal 6) q refl)
 
 at-plainWork : (k : Plain) (s : State) (t : List ℕ) → Quiet s → Sound [] (plainWork k) s t
 unfolding plainWork

@@ -9,9 +9,10 @@ use Rattle.rules.specs.declared.Run.{Run}
 use Rattle.rules.specs.declared.Outcome.{Outcome}
 use Rattle.rules.specs.declared.Given.{Given}
 use Rattle.rules.specs.declared.Given.the-variants.{Nothing}
+use Rattle.rules.specs.declared.Event.the-variants.{None}
 use Rattle.rules.specs.declared.Reply.{Reply}
 use Rattle.rules.specs.Book.{choose, State, inMood, rowFits, allFits}
-use Rattle.rules.specs.Step.{statusOf, doneBy, refusedBy}
+use Rattle.rules.specs.Step.{statusOf, statusBy, doneBy, refusedBy}
 
 -- sizes that fit, of n characters and of l and p lengths
 abbrev pub sizesAre : Shape → ℕ → ℕ → ℕ → Bool
@@ -38,7 +39,7 @@ abbrev pub replyOf : Run → ℕ → Given → Reply
 replyOf r count given = record { file = r .file; end = r .end; events = r .events; taken = r .taken; count = count; given = given }
 
 abbrev pub refusedReply : Run → ℕ → Reply
-refusedReply r n = replyOf r 0 (Nothing (statusOf n 0))
+refusedReply r n = replyOf r 0 (Nothing (statusOf n 0 None))
 
 abbrev pub endedReply : Outcome → Reply
-endedReply o = replyOf (o .run) 0 (Nothing (o .status))
+endedReply o = replyOf (o .run) 0 (Nothing (statusBy o))

@@ -1,4 +1,5 @@
 // What every call begins and ends with: the tests before work, the turn of the moods, and the reply.
+use rules::Event;
 use rules::File;
 use rules::Given;
 use rules::Outcome;
@@ -298,6 +299,7 @@ pub fn refuse(run: Run, number: u8) -> Reply
     let status = Status {
         number: number,
         stop: 0,
+        event: Event::None,
     };
     reply(run, 0, Given::Nothing(status))
 }
@@ -307,6 +309,6 @@ pub fn ended(o: Outcome) -> Reply
     ensures { λ r. ⌜ r ≡ endedReply o ⌝ }
 {
     let run = o.run;
-    let status = o.status;
+    let status = running::status_by(o);
     reply(run, 0, Given::Nothing(status))
 }

@@ -1,5 +1,6 @@
 // The event cycle: good file, good page, newline, newpage, set, and what follows an answer call each other. They recurse only as deep
 // as answers nest; everything else is a loop.
+use rules::Event;
 use rules::Outcome;
 use rules::Position;
 use rules::Run;
@@ -27,13 +28,14 @@ pub fn good_file(
     while places::file_ended(here, reading) {
         let word = running::next_word(here, row);
         let next = running::signalled(here, row);
+        let event = running::file_end(reading);
         if running::kind_of(word) == 0 {
             if string {
                 return running::stopped(next, 3);
             }
-            return running::refused(next, 7);
+            return running::refused_at(next, event, running::file_end_number(reading));
         }
-        let after = follow(next, word, reading, text, lines, pages, row);
+        let after = follow(next, word, reading, text, lines, pages, row, event);
         if !running::goes_on(after) {
             return after;
         }
@@ -89,7 +91,7 @@ pub fn page_end(
     if running::kind_of(word) == 0 {
         newpage(next, reading, text, lines, pages, row)
     } else {
-        follow(next, word, reading, text, lines, pages, row)
+        follow(next, word, reading, text, lines, pages, row, Event::PageEnd)
     }
 }
 
@@ -159,7 +161,8 @@ pub fn newpage(
     }
 }
 
-// Follows an answer that is not false: kind 8 ends the call; any other is performed, and the call's mood is set again.
+// Follows an event's answer that is not false: kind 8 ends the call in that event; any other is performed, and the call's mood is set
+// again.
 pub fn follow(
     run: Run,
     word: u32,
@@ -168,12 +171,13 @@ pub fn follow(
     lines: &mut [u8],
     pages: &mut [u8],
     row: &[u32],
+    event: Event,
 ) -> Outcome
     requires { ⌜ Ready (now row) (Action.answered reading (mendingOf word)) (state run (now lines) (now pages)) ⌝ }
-    ensures { λ r. ⌜ outcome r (now (text .exit)) (now (lines .exit)) (now (pages .exit)) ≡ followed (now (row .entry)) reading word (state run (now (lines .entry)) (now (pages .entry))) (now (text .entry)) ⌝ }
+    ensures { λ r. ⌜ outcome r (now (text .exit)) (now (lines .exit)) (now (pages .exit)) ≡ followed (now (row .entry)) event reading word (state run (now (lines .entry)) (now (pages .entry))) (now (text .entry)) ⌝ }
 {
     if running::kind_of(word) == 8 {
-        return running::refused(run, 11);
+        return running::refused_at(run, event, 11);
     }
     let after = perform(run, word, text, lines, pages, row);
     if running::goes_on(after) {
@@ -226,6 +230,7 @@ pub fn perform(
 }
 
 // "Set: beyond the logical end, go to that end and signal logical end (0: refusal 7; else done); out of bounds, refusal 6; else go."
+// Refusal 7 is 14 since document 02.
 pub fn set_to(
     run: Run,
     to: Position,
@@ -247,10 +252,10 @@ pub fn set_to(
         let next = running::signalled(last, row);
         let kind = running::kind_of(word);
         if kind == 0 {
-            return running::refused(next, 7);
+            return running::refused_at(next, Event::LogicalEnd, 14);
         }
         if kind == 8 {
-            return running::refused(next, 11);
+            return running::refused_at(next, Event::LogicalEnd, 11);
         }
         return perform(next, word, text, lines, pages, row);
     }

@@ -1,5 +1,5 @@
-// The examples E1 to E11 of document 01, run over the core: for each what document 01 says,
-// and beside it the line that its last call writes.
+// The examples E1 to E11 of document 01, and one for each event of document 02's C-12, run over the core: for each what the document
+// says, and beside it the line that its last call writes.
 use libc::STDOUT_FILENO;
 use scenes::Played;
 ghost use Prim.Native.Nat.{_≤_, _<_};
@@ -12,7 +12,7 @@ fn step_past(from: usize, to: usize, size: usize) -> usize
     if to < size { to + 1 } else { size }
 }
 
-// Whether a line says what document 01 says; any other is a line of a script.
+// Whether a line says what a document says; any other is a line of a script.
 fn is_said(line: &[u8]) -> bool {
     if line.len() == 0 {
         return false;
@@ -95,7 +95,7 @@ fn main() {
     let mut row = [0u32; 80];
     let mut out = [0u8; 150000];
     let last = play_table(
-        b"E1: document 01: line 1 \"abcdefgh\", position and end (1,2,3), one event: \nestablish\nputs 6162636465666768696a\nE2: document 01: \"abcdefgh\", stop 2, (1,1,9): \nreset\ngets 20 -\nE3: document 01: empty, stop 2: \ngets 20 -\nE4: document 01: \"ij\", stop 3, two events, one answer: \nreset\ngets 20 -\nrow 20000000\ngets 20 -\nE5: document 01: end (1,1,2): \nestablish\nputs 6162636465666768696a\nreset\nputc 5a\nE6: document 01: end still (1,1,7): \nestablish\nputs 616263646566\nsetc 3\nputc 58\nE6, the line: document 01: \"abXdef\": \nview 1 1 -\nE7: document 01: refusal 10: \nshape 2 3 10\nlend 60 6 2\nestablish\nputi 7\nE8: document 01: done: \nshape 2 3 11\nlend 66 6 2\nestablish\nputi 7\nE8, the line: document 01: nine blanks and \"+7\": \nview 1 1 -\nE9: document 01: whole(7,3) \" +7\": \nwhole 7 3 3\nE9: document 01: whole(7,-3) \"  7\": \nwhole 7 -3 3\nE9: document 01: whole(7,1) \"*\": \nwhole 7 1 1\nE9: document 01: whole(-7,-1) \"*\": \nwhole -7 -1 1\nE10: document 01: whole(0,0) \"0\": \nwhole 0 0 1\nE10: document 01: whole(123,3) \"***\": \nwhole 123 3 3\nE11: document 01: refusal 9: \nwhole -2147483648 0 20\nE11: document 01: refusal 9: \nestablish\nputi -2147483648\n",
+        b"E1: document 01: line 1 \"abcdefgh\", position and end (1,2,3), one event: \nestablish\nputs 6162636465666768696a\nE2: document 01: \"abcdefgh\", stop 2, (1,1,9): \nreset\ngets 20 -\nE3: document 01: empty, stop 2: \ngets 20 -\nE4: document 01: \"ij\", stop 3, two events, one answer: \nreset\ngets 20 -\nrow 20000000\ngets 20 -\nE5: document 01: end (1,1,2): \nestablish\nputs 6162636465666768696a\nreset\nputc 5a\nE6: document 01: end still (1,1,7): \nestablish\nputs 616263646566\nsetc 3\nputc 58\nE6, the line: document 01: \"abXdef\": \nview 1 1 -\nE7: document 01: refusal 10: \nshape 2 3 10\nlend 60 6 2\nestablish\nputi 7\nE8: document 01: done: \nshape 2 3 11\nlend 66 6 2\nestablish\nputi 7\nE8, the line: document 01: nine blanks and \"+7\": \nview 1 1 -\nE9: document 01: whole(7,3) \" +7\": \nwhole 7 3 3\nE9: document 01: whole(7,-3) \"  7\": \nwhole 7 -3 3\nE9: document 01: whole(7,1) \"*\": \nwhole 7 1 1\nE9: document 01: whole(-7,-1) \"*\": \nwhole -7 -1 1\nE10: document 01: whole(0,0) \"0\": \nwhole 0 0 1\nE10: document 01: whole(123,3) \"***\": \nwhole 123 3 3\nE11: document 01: refusal 9: \nwhole -2147483648 0 20\nE11: document 01: refusal 9: \nestablish\nputi -2147483648\nEvent: document 02: 14, logical end at (1,1,4): \nshape 1 1 3\nlend 3 1 1\nestablish\nputs 616263\nreset\ngets 3 -\ngetc\nEvent: document 02: 15, physical end at (2,1,1): \nshape 1 1 1\nlend 1 1 1\nestablish\nputs 6161\nEvent: document 02: 11, page end at (1,2,1): \nshape 2 1 2\nlend 4 2 2\nestablish\nputs 6162\nnewline\nrow 80000000\nputs 63\nEvent: document 02: 11, line end at (1,1,9): \nshape 2 3 8\nlend 48 6 2\nestablish\nrow 80000000\nputs 6162636465666768696a\nEvent: document 02: 8, character at (1,1,1): \nestablish\nputc 0a\nEvent: document 02: 9, value at (1,1,11): \nshape 1 1 12\nlend 12 1 1\nestablish\nputs 3231343734383336343820\nreset\ngeti\nEvent, nested: document 02: 14, the innermost, logical end at (2,1,3): \nshape 2 1 2\nlend 4 2 2\nestablish\nputs 61626364\nreset\ngets 20 -\nnewline\nrow 20000000 30000000\ngetc\n",
         &mut bytes,
         &mut output,
         &mut text,

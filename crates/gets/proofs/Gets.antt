@@ -6,7 +6,6 @@ use mathlib.Core.Bool.{Bool, true, false}
 use mathlib.Core.List.{List, [], _∷_, _++_}
 use lib.ListN.{length, take, drop, take-append-drop}
 use lib.Seq.{length-take-le}
-use Rattle.rules.specs.declared.Status.{Status}
 use Rattle.rules.specs.declared.Position.{Position}
 use Rattle.rules.specs.declared.File.{File}
 use Rattle.rules.specs.declared.Run.{Run}
@@ -14,8 +13,9 @@ use Rattle.rules.specs.declared.Outcome.{Outcome}
 use Rattle.rules.specs.declared.Given.{Given}
 use Rattle.rules.specs.declared.Given.the-variants.{Nothing, Character}
 use Rattle.rules.specs.declared.Reply.{Reply}
+use Rattle.rules.specs.declared.Status.{Status}
 use Rattle.rules.specs.Book.{State, state, runWith}
-use Rattle.rules.specs.Step.{endingAs, Out, done, ends, Step, _>>=_, _>>_, pure, going, outcome, outcomeGiving}
+use Rattle.rules.specs.Step.{endingBy, outcomeWith, Out, done, ends, Step, _>>=_, _>>_, pure, going, outcome, outcomeGiving}
 use Rattle.rules.specs.Steps.{goodLine, execute}
 use Rattle.rules.specs.Calls.{Value, aCharacter, aString, begin, needRow, getting, takeCharacter, gettingCharacter, getCharacters, gettingString, takeInteger, gettingInteger, leave, after, book, call, work, askingWork, bufferOf, asking, getsCharacter, getsString, getsInteger}
 use Rattle.laws.specs.Given.{givenOut}
@@ -42,7 +42,7 @@ module _ (row : List ℕ) (file : File) (end : Position) (t l p : List ℕ) {r :
 
   module _ (e : going (o .status) ≡ true) (g : Outcome) (t₁ l₁ p₁ : List ℕ) (c : outcome g t₁ l₁ p₁ ≡ execute row (goodLine true false) (state (o .run) l p) t) where
     pub character-line : going (g .status) ≡ false → {reply : Reply} → reply ≡ endedReply g → after reply [] t₁ l₁ p₁ ≡ call (asking getsCharacter row) file (book t l p end)
-    character-line n q = ap (λ (y : Reply). after y [] t₁ l₁ p₁) q ∙ reply-ends [] g t₁ l₁ p₁ (bind-ends (execute row (goodLine true false)) _ (state (o .run) l p) t (halted g c n)) ∙ character-is e
+    character-line n q = ap (λ (y : Reply). after y [] t₁ l₁ p₁) q ∙ reply-ends [] g t₁ l₁ p₁ n (bind-ends (execute row (goodLine true false)) _ (state (o .run) l p) t (halted g c n)) ∙ character-is e
 
     module _ (n : going (g .status) ≡ true) (b : ℕ) (k : Outcome) (t₂ l₂ p₂ : List ℕ) (d : outcomeGiving b k t₂ l₂ p₂ ≡ takeCharacter row (state (g .run) l₁ p₁) t₁) where
       line-passed : oneCharacter row (state (o .run) l p) t ≡ (takeCharacter row >>= λ b. pure (aCharacter b)) (state (g .run) l₁ p₁) t₁
@@ -50,7 +50,7 @@ module _ (row : List ℕ) (file : File) (end : Position) (t l p : List ℕ) {r :
 
       pub character-event : going (k .status) ≡ false → {reply : Reply} → reply ≡ endedReply k → after reply [] t₂ l₂ p₂ ≡ call (asking getsCharacter row) file (book t l p end)
       character-event m q = ap (λ (y : Reply). after y [] t₂ l₂ p₂) q
-          ∙ reply-ends [] k t₂ l₂ p₂ (line-passed ∙ bind-ends (takeCharacter row) _ (state (g .run) l₁ p₁) t₁ (gives-none b k d m)) ∙ character-is e
+          ∙ reply-ends [] k t₂ l₂ p₂ m (line-passed ∙ bind-ends (takeCharacter row) _ (state (g .run) l₁ p₁) t₁ (gives-none b k d m)) ∙ character-is e
 
       pub character-got : going (k .status) ≡ true → {reply : Reply} → reply ≡ replyOf (k .run) 0 (Character b) → after reply [] t₂ l₂ p₂ ≡ call (asking getsCharacter row) file (book t l p end)
       unfolding pure
@@ -72,7 +72,7 @@ module _ (row : List ℕ) (file : File) (end : Position) (t l p : List ℕ) {r :
 
     -- the output is what was delivered, and untouched past it
     pub string-got : going (o .status) ≡ true → (y : Run) (x : Status) (n : ℕ) (output t′ l′ p′ : List ℕ)
-        → getCharacters row terminators (length buffer) [] (state (o .run) l p) t ≡ done (aString (take n output) (endingAs x)) (state y l′ p′) t′ → n ≤ length buffer → drop n output ≡ drop n buffer → length output ≡ length buffer
+        → getCharacters row terminators (length buffer) [] (state (o .run) l p) t ≡ done (aString (take n output) (endingBy (outcomeWith y x))) (state y l′ p′) t′ → n ≤ length buffer → drop n output ≡ drop n buffer → length output ≡ length buffer
         → {reply : Reply} → reply ≡ replyOf y n (Nothing x) → after reply output t′ l′ p′ ≡ call (asking (getsString terminators buffer) row) file (book t l p end)
     unfolding call work askingWork bufferOf gettingString leave
     string-got e y x n output t′ l′ p′ c k d i q =

@@ -14,9 +14,10 @@ use lib.Seq.{sets}
 use Rattle.rules.specs.Whole.{wholeText}
 use borrow.Author.Tests.{le-leb, lt-leb, leb-true, leb-false, eq-eqb, ne-eqb}
 use Rattle.rules.specs.declared.Run.{Run}
+use Rattle.rules.specs.declared.Event.the-variants as code
 use Rattle.rules.specs.declared.Outcome.{Outcome}
-use Rattle.rules.specs.Book.{choose, within, nextCharacter, characterIndex, State, state, onRun, here, shapeOf, movedTo, rowFits}
-use Rattle.rules.specs.Step.{endingBy, Out, done, ends, refusal, going, outcomeGiving, outcome, refusedBy, doneBy}
+use Rattle.rules.specs.Book.{choose, within, nextCharacter, characterIndex, State, state, onRun, here, shapeOf, movedTo, rowFits, Event}
+use Rattle.rules.specs.Step.{endingBy, Ending, Out, done, ends, refusal, refusalAt, going, outcomeGiving, outcome, refusedBy, refusedAt, doneBy}
 use Rattle.rules.specs.Steps.{Action, goodLine, passBlanks, moreDigits, digit, isStop, characterEvent, measure, execute}
 use Rattle.rules.specs.Ready.{Ready, Valid}
 use Rattle.laws.specs.Capped.{capped, withCap}
@@ -31,6 +32,7 @@ use Rattle.laws.proofs.Order.{split}
 use Rattle.laws.proofs.Progress.{Done, Site, ready-as, ready-on, gain-less, from-gain}
 use Rattle.laws.proofs.Ways.{halted, hands-none, from-later, post-done-of, done-of}
 use Rattle.laws.proofs.Numbers.{first-post, sign-post, given-there, capped-more, capped-stays, more-line, more-stops, more-ends, more-from, more-stays, more-again, more-on}
+use Rattle.laws.proofs.Given.{given-nothing}
 use Rattle.laws.proofs.Gets.{passed}
 use Rattle.laws.proofs.Runs.{both-true}
 use Rattle.integers.specs.Values.{nextValue, nothingFound}
@@ -64,7 +66,7 @@ above-next n h = sym (ap (λ (x : Bool). choose x n 2147483648) (lt-leb n 214748
 pub event-from : (row : List ℕ) (s : State) (t : List ℕ) {y : Run} → y ≡ movedTo (s .run) (nextCharacter (here s)) → {x : Out ℕ} → x ≡ characterEvent row (execute row) true 48 (onRun s y) t → x ≡ characterEvent row (execute row) true 48 (passed s) t
 event-from row s t hy h = h ∙ ap (λ (r : Run). characterEvent row (execute row) true 48 (onRun s r) t) hy
 
-pub gives-refused : {A : Type 0} (a : A) {r : Run} {o : Outcome} {t l p : List ℕ} → o ≡ refusedBy r 8 → outcomeGiving a o t l p ≡ ends (refusal 8) (state r l p) t
+pub gives-refused : {A : Type 0} (a : A) {r : Run} {o : Outcome} {t l p : List ℕ} → o ≡ refusedAt r code.Character 8 → outcomeGiving a o t l p ≡ ends (refusalAt Event.character (r .file .position) 8) (state r l p) t
 gives-refused a {r} {o} {t} {l} {p} h = ap (λ (x : Outcome). outcomeGiving a x t l p) h
 
 -- the text of an integer, at its place
@@ -181,12 +183,12 @@ state-of (done n s t) = s
 state-of (ends e s t) = s
 
 pub nothing-out : (o : Outcome) (t l p : List ℕ) {r : Found} → r ≡ nothingFound o → givenOut (r .run) (r .given) t l p ≡ outcomeGiving nothing o t l p
-nothing-out o t l p h = ap (λ (f : Found). givenOut (f .run) (f .given) t l p) h
+nothing-out o t l p h = ap (λ (f : Found). givenOut (f .run) (f .given) t l p) h ∙ given-nothing o t l p
 
 pub nothing-ends : (o : Outcome) (t l p : List ℕ) {r : Found} → r ≡ nothingFound o → going (o .status) ≡ false → {x : Out Value} → x ≡ ends (endingBy o) (state (o .run) l p) t → givenOut (r .run) (r .given) t l p ≡ x
 nothing-ends o t l p h g e = nothing-out o t l p h ∙ hands-none nothing o e g
 
-pub nothing-refused : {u : Run} {o : Outcome} {t l p : List ℕ} {r : Found} → o ≡ refusedBy u 9 → r ≡ nothingFound o → givenOut (r .run) (r .given) t l p ≡ ends (refusal 9) (state u l p) t
+pub nothing-refused : {u : Run} {o : Outcome} {t l p : List ℕ} {r : Found} → o ≡ refusedAt u code.Value 9 → r ≡ nothingFound o → givenOut (r .run) (r .given) t l p ≡ ends (refusalAt Event.value (u .file .position) 9) (state u l p) t
 nothing-refused {u} {o} {t} {l} {p} e h = nothing-out o t l p h ∙ ap (λ (x : Outcome). outcomeGiving nothing x t l p) e
 
 pub integer-out : (row : List ℕ) (minus : Bool) {n : ℕ} (s : State) (t : List ℕ) {v : ℤ} → n ≤ 2147483647 → v ≡ withSign minus n → done (anInteger (toZ w32 (ofZ w32 v))) s t ≡ integerGiven row minus n s t

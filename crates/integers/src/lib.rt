@@ -1,9 +1,9 @@
 // Integers put and got: the room that one needs, its text, and its digits.
 use lines::Taken;
+use rules::Event;
 use rules::Given;
 use rules::Outcome;
 use rules::Run;
-use rules::Status;
 ghost use mathlib.Core.Path.{_≡_};
 ghost use mathlib.Core.Bool.{true};
 ghost use Prim.Native.Nat.{_+_, _≤_, _<_, _^_};
@@ -247,7 +247,7 @@ pub fn first_digit(
         };
     }
     Taken {
-        outcome: running::refused(after.run, 8),
+        outcome: running::refused_at(after.run, Event::Character, 8),
         byte: b,
     }
 }
@@ -323,7 +323,7 @@ pub fn found_nothing(o: Outcome) -> Found
     ensures { λ r. ⌜ r ≡ nothingFound o ⌝ }
 {
     let run = o.run;
-    let status = o.status;
+    let status = running::status_by(o);
     Found {
         run: run,
         given: Given::Nothing(status),
@@ -362,10 +362,10 @@ pub fn integer_given(
     let word = running::next_word(run, row);
     let next = running::signalled(run, row);
     if running::kind_of(word) == 0 {
-        let ended = running::refused(next, 9);
+        let ended = running::refused_at(next, Event::Value, 9);
         return found_nothing(ended);
     }
-    let after = events::follow(next, word, true, text, lines, pages, row);
+    let after = events::follow(next, word, true, text, lines, pages, row, Event::Value);
     found_nothing(after)
 }
 

@@ -10,15 +10,17 @@ use lib.ListN.{length}
 use borrow.Author.Tests.{eq-eqb, ne-eqb}
 use Rattle.rules.specs.declared.Position.{Position}
 use Rattle.rules.specs.declared.Run.{Run}
+use Rattle.rules.specs.declared.Event as code
+use Rattle.rules.specs.declared.Event.the-variants.{LogicalEnd, PageEnd}
 use Rattle.rules.specs.declared.Outcome.{Outcome}
 use Rattle.rules.specs.Book.{choose, before, inBounds, nextLine, nextPage, previousCharacter, State, state, onRun, here, endOf, shapeOf, rightsOf, movedTo, inMood, withFile, rewound, kindOf, placeOf, characterOf, mendingOf, logicalEnd, pageEnd, lineEnd, Answer, Mending, isTrue}
-use Rattle.rules.specs.Step.{Ending, Out, done, ends, Step, _>>=_, pure, halt, refuse, refuseAt, refusal, stopped, change, branch, test, need, outcome, doneBy, refusedBy, stoppedBy, fileEnded, pageEnded, lineEnded, onEndPage, onEndLine, again, goTo, goToEnd, signal, moodOn, backspace, reset, endLine, endPage}
-use Rattle.rules.specs.Steps.{Action, goodFile, goodPage, goodLine, atPageEnd, atLineEnd, newline, newpage, setTo, perform, answered, fileEnd, signals, signalWhile, upon, goodFileBody, goodPageBody, goodLineBody, atPageEndBody, atLineEndBody, newlineBody, newpageBody, setToBody, performBody, answeredBody, body, stage, execute}
+use Rattle.rules.specs.Step.{Ending, Out, done, ends, Step, _>>=_, pure, halt, refuse, refuseAt, refusal, stopped, change, branch, test, need, outcome, going, eventAs, statusOf, doneBy, refusedBy, refusedAt, stoppedBy, fileEnded, pageEnded, lineEnded, onEndPage, onEndLine, again, goTo, goToEnd, signal, moodOn, backspace, reset, endLine, endPage}
+use Rattle.rules.specs.Steps.{Action, goodFile, goodPage, goodLine, atPageEnd, atLineEnd, newline, newpage, setTo, perform, answered, fileEnd, fileEndNumber, signals, signalWhile, upon, goodFileBody, goodPageBody, goodLineBody, atPageEndBody, atLineEndBody, newlineBody, newpageBody, setToBody, performBody, answeredBody, body, stage, execute}
 use Rattle.laws.specs.Follow.{followed}
 use Rattle.laws.proofs.Validity.{Valid, Near, near-at, near-end, toEnd, end-valid, end-further}
 use Rattle.laws.proofs.Progress.{Gain, Ready, FileGood, Done, Site, site-lower, gain-less, moved-gain, From, from-start, from-gain, heard, answer}
 use Rattle.laws.proofs.Unfolding.{On, unfold-execute}
-use Rattle.laws.proofs.Ways.{bind-done, bind-ends, branch-true, branch-false, test-true, test-false, need-true, need-false, change-then, signal-then, outcomeAt, outcome-is, done-of, Asked, is-false, is-jump, is-true, after-event, from-lower, from-default, from-answer, on-default, signals-default, signals-followed, followed-on, while-stays, while-ends, while-again}
+use Rattle.laws.proofs.Ways.{bind-done, bind-ends, branch-true, branch-false, test-true, test-false, need-true, need-false, change-then, signal-then, outcomeAt, outcome-is, hands-on, done-of, Asked, is-false, is-jump, is-true, after-event, from-lower, from-default, from-answer, on-default, refuse-as, signals-default, signals-followed, followed-on, while-stays, while-ends, while-again}
 
 -- ---- a good step: an inner one, and then events while a test holds
 
@@ -38,9 +40,14 @@ module _ (self inner event : Step (Unit {0})) (ended : State → Bool) (s : Stat
 
 -- ---- good file
 
+-- neither refusal of good file goes on
+file-refuses : (r : Bool) (event : code.Event) → going (statusOf (fileEndNumber r) 0 event) ≡ false
+file-refuses true event = refl
+file-refuses false event = refl
+
 module _ (row : List ℕ) (r w : Bool) (s : State) (t : List ℕ) (rd : Ready row (goodFile r w) s) where
   abbrev fileDefault : Step Unit
-  fileDefault = branch w (halt (stopped 3)) (refuseAt (fileEnd r) 7)
+  fileDefault = branch w (halt (stopped 3)) (refuseAt (fileEnd r) (fileEndNumber r))
 
   law-goodFile : execute row (goodFile r w) s t ≡ signalWhile (λ s. fileEnded r (s .run)) (signals row (execute row) (fileEnd r) r fileDefault) (execute row (goodFile r w)) s t
   unfolding body goodFileBody
@@ -57,15 +64,16 @@ module _ (row : List ℕ) (r w : Bool) (s : State) (t : List ℕ) (rd : Ready ro
     unfolding halt
     goodFile-stops z y h = outcome-is s t h ∙ sym (default-ends z (branch-true _ _ (onRun s u) t y))
 
-    pub goodFile-refuses : {x : Outcome} → k ≡ 0 → w ≡ false → x ≡ refusedBy u 7 → outcomeAt x s t ≡ execute row (goodFile r w) s t
+    pub goodFile-refuses : {x : Outcome} {event : code.Event} {n : ℕ} → k ≡ 0 → w ≡ false → event ≡ eventAs (fileEnd r) → n ≡ fileEndNumber r → x ≡ refusedAt u event n → outcomeAt x s t ≡ execute row (goodFile r w) s t
     unfolding halt
-    goodFile-refuses z y h = outcome-is s t h ∙ sym (default-ends z (branch-false _ _ (onRun s u) t y))
+    goodFile-refuses {event = event} z y i j h = outcome-is s t (h ∙ ap (λ (m : ℕ). refusedAt u event m) j)
+        ∙ hands-on (refusedAt u event (fileEndNumber r)) (default-ends z (branch-false _ _ (onRun s u) t y ∙ sym (refuse-as (fileEnd r) (fileEndNumber r) (onRun s u) t i))) (file-refuses r event)
 
-    pub goodFile-ends : (k ≡ 0 → ⊥) → {x : Ending} {v : State} {t′ : List ℕ} → followed row r c (onRun s u) t ≡ ends x v t′ → execute row (goodFile r w) s t ≡ ends x v t′
-    goodFile-ends z h = law-goodFile ∙ while-ends _ _ _ s t e (signals-followed row (fileEnd r) r fileDefault t q z ∙ h)
+    pub goodFile-ends : (k ≡ 0 → ⊥) → {event : code.Event} → event ≡ eventAs (fileEnd r) → {x : Ending} {v : State} {t′ : List ℕ} → followed row event r c (onRun s u) t ≡ ends x v t′ → execute row (goodFile r w) s t ≡ ends x v t′
+    goodFile-ends z i h = law-goodFile ∙ while-ends _ _ _ s t e (signals-followed row (fileEnd r) r fileDefault t q z i ∙ h)
 
-    pub goodFile-again : (k ≡ 0 → ⊥) → {v : State} {t′ : List ℕ} → followed row r c (onRun s u) t ≡ done tt v t′ → execute row (goodFile r w) s t ≡ execute row (goodFile r w) v t′
-    goodFile-again z h = law-goodFile ∙ while-again _ _ _ s t e (signals-followed row (fileEnd r) r fileDefault t q z ∙ h)
+    pub goodFile-again : (k ≡ 0 → ⊥) → {event : code.Event} → event ≡ eventAs (fileEnd r) → {v : State} {t′ : List ℕ} → followed row event r c (onRun s u) t ≡ done tt v t′ → execute row (goodFile r w) s t ≡ execute row (goodFile r w) v t′
+    goodFile-again z i h = law-goodFile ∙ while-again _ _ _ s t e (signals-followed row (fileEnd r) r fileDefault t q z i ∙ h)
 
 -- ---- good page, and the event at a page's end
 
@@ -92,8 +100,8 @@ module _ (row : List ℕ) (r : Bool) (s : State) (t : List ℕ) (rd : Ready row 
   pub pageEnd-default : k ≡ 0 → {z : Out (Unit {0})} → z ≡ execute row (newpage r) (onRun s u) t → z ≡ execute row (atPageEnd r) s t
   pageEnd-default y g = g ∙ sym (law-pageEnd ∙ signals-default row pageEnd r _ t q y)
 
-  pub pageEnd-follows : (k ≡ 0 → ⊥) → {z : Out (Unit {0})} → z ≡ followed row r c (onRun s u) t → z ≡ execute row (atPageEnd r) s t
-  pageEnd-follows y g = g ∙ sym (law-pageEnd ∙ signals-followed row pageEnd r _ t q y)
+  pub pageEnd-follows : (k ≡ 0 → ⊥) → {z : Out (Unit {0})} → z ≡ followed row PageEnd r c (onRun s u) t → z ≡ execute row (atPageEnd r) s t
+  pageEnd-follows y g = g ∙ sym (law-pageEnd ∙ signals-followed row pageEnd r _ t q y refl)
 
 -- ---- newline: b is what good page gave, y the running call at the logical end
 
@@ -181,22 +189,22 @@ module _ (row : List ℕ) (r : Bool) (s : State) (t : List ℕ) (rd : Ready row 
 
 -- ---- what follows a true answer
 
-module _ (row : List ℕ) (r : Bool) (w : ℕ) (s : State) (t : List ℕ) (rd : Ready row (answered r (mendingOf w)) s) {k : ℕ} (i : k ≡ kindOf w) where
+module _ (row : List ℕ) (event : code.Event) (r : Bool) (w : ℕ) (s : State) (t : List ℕ) (rd : Ready row (answered r (mendingOf w)) s) {k : ℕ} (i : k ≡ kindOf w) where
   pub follow-perform : Site row (answered r (mendingOf w)) s (perform (mendingOf w)) s
   follow-perform = site-lower row (answered r (mendingOf w)) s rd (perform (mendingOf w)) (omega arith)
 
-  pub follow-jumps : k ≡ 8 → {x : Outcome} → x ≡ refusedBy (s .run) 11 → outcomeAt x s t ≡ followed row r w s t
+  pub follow-jumps : k ≡ 8 → {x : Outcome} → x ≡ refusedAt (s .run) event 11 → outcomeAt x s t ≡ followed row event r w s t
   unfolding halt
   follow-jumps j h = outcome-is s t h ∙ sym (branch-true _ _ s t (eq-eqb (kindOf w) 8 (sym i ∙ j)))
 
-  law-followed : (k ≡ 8 → ⊥) → followed row r w s t ≡ (execute row (perform (mendingOf w)) >>= λ _. again r) s t
+  law-followed : (k ≡ 8 → ⊥) → followed row event r w s t ≡ (execute row (perform (mendingOf w)) >>= λ _. again r) s t
   unfolding body answeredBody
   law-followed j = branch-false _ _ s t (ne-eqb (kindOf w) 8 (λ h. j (i ∙ h))) ∙ unfold-execute row (answered r (mendingOf w)) s t rd
 
-  pub follow-ends : (k ≡ 8 → ⊥) → {x : Ending} {u : State} {t′ : List ℕ} → execute row (perform (mendingOf w)) s t ≡ ends x u t′ → followed row r w s t ≡ ends x u t′
+  pub follow-ends : (k ≡ 8 → ⊥) → {x : Ending} {u : State} {t′ : List ℕ} → execute row (perform (mendingOf w)) s t ≡ ends x u t′ → followed row event r w s t ≡ ends x u t′
   follow-ends j h = law-followed j ∙ bind-ends _ _ s t h
 
-  pub follow-done : (k ≡ 8 → ⊥) → {u : State} {t′ : List ℕ} → execute row (perform (mendingOf w)) s t ≡ done tt u t′ → {y : Run} {x : Outcome} → y ≡ inMood (u .run) r → x ≡ doneBy y → outcomeAt x u t′ ≡ followed row r w s t
+  pub follow-done : (k ≡ 8 → ⊥) → {u : State} {t′ : List ℕ} → execute row (perform (mendingOf w)) s t ≡ done tt u t′ → {y : Run} {x : Outcome} → y ≡ inMood (u .run) r → x ≡ doneBy y → outcomeAt x u t′ ≡ followed row event r w s t
   unfolding change
   follow-done j {u} {t′} h e g = outcome-is u t′ (g ∙ ap doneBy e) ∙ sym (law-followed j ∙ bind-done _ _ s t h)
 
@@ -336,23 +344,23 @@ module _ (row : List ℕ) (x : Position) (s : State) (t : List ℕ) (rd : Ready 
       set-goes e i h = outcome-is s t (h ∙ ap doneBy i) ∙ sym (law-inside ∙ need-true 6 _ _ s t e)
 
     module _ (b : before (endOf s) x ≡ true) {y : Run} (i : y ≡ movedTo (s .run) (endOf s)) where
-      law-beyond : execute row (setTo x) s t ≡ (signal logicalEnd row >>= λ a. upon logicalEnd a (λ m. execute row (perform m)) (refuseAt logicalEnd 7)) (onRun s y) t
+      law-beyond : execute row (setTo x) s t ≡ (signal logicalEnd row >>= λ a. upon logicalEnd a (λ m. execute row (perform m)) (refuseAt logicalEnd 14)) (onRun s y) t
       unfolding setToBody
-      law-beyond = law-setTo ∙ need-true 4 _ _ s t g ∙ test-true _ _ _ s t b ∙ change-then _ _ s t ∙ ap (λ (r : Run). (signal logicalEnd row >>= λ a. upon logicalEnd a (λ m. execute row (perform m)) (refuseAt logicalEnd 7)) (onRun s r) t) (sym i)
+      law-beyond = law-setTo ∙ need-true 4 _ _ s t g ∙ test-true _ _ _ s t b ∙ change-then _ _ s t ∙ ap (λ (r : Run). (signal logicalEnd row >>= λ a. upon logicalEnd a (λ m. execute row (perform m)) (refuseAt logicalEnd 14)) (onRun s r) t) (sym i)
 
       pub set-from : From row (setTo x) s (onRun s y)
       set-from = subst (λ (r : Run). From row (setTo x) s (onRun s r)) (sym i) (from-gain (toEnd s) rd (end-valid s (rd .valid)) (rd .took) (moved-gain s (endOf s) 0 (omega (arith, rd .valid .order))))
 
       module _ {w k : ℕ} {r : Run} (q : Asked row (onRun s y) w k r) where
-        answered-by : (a : Answer) → answer row (onRun s y) ≡ a → execute row (setTo x) s t ≡ upon logicalEnd a (λ m. execute row (perform m)) (refuseAt logicalEnd 7) (onRun s r) t
-        answered-by a e = law-beyond ∙ signal-then logicalEnd row _ (onRun s y) t ∙ ap (λ (a : Answer). upon logicalEnd a (λ m. execute row (perform m)) (refuseAt logicalEnd 7) (heard row (onRun s y)) t) e
-            ∙ ap (λ (z : State). upon logicalEnd a (λ m. execute row (perform m)) (refuseAt logicalEnd 7) z t) (sym (after-event q))
+        answered-by : (a : Answer) → answer row (onRun s y) ≡ a → execute row (setTo x) s t ≡ upon logicalEnd a (λ m. execute row (perform m)) (refuseAt logicalEnd 14) (onRun s r) t
+        answered-by a e = law-beyond ∙ signal-then logicalEnd row _ (onRun s y) t ∙ ap (λ (a : Answer). upon logicalEnd a (λ m. execute row (perform m)) (refuseAt logicalEnd 14) (heard row (onRun s y)) t) e
+            ∙ ap (λ (z : State). upon logicalEnd a (λ m. execute row (perform m)) (refuseAt logicalEnd 14) z t) (sym (after-event q))
 
-        pub set-refused : k ≡ 0 → {o : Outcome} → o ≡ refusedBy r 7 → outcomeAt o s t ≡ execute row (setTo x) s t
+        pub set-refused : k ≡ 0 → {o : Outcome} → o ≡ refusedAt r LogicalEnd 14 → outcomeAt o s t ≡ execute row (setTo x) s t
         unfolding halt
         set-refused z h = outcome-is s t h ∙ sym (answered-by _ (is-false q z))
 
-        pub set-jumps : k ≡ 8 → {o : Outcome} → o ≡ refusedBy r 11 → outcomeAt o s t ≡ execute row (setTo x) s t
+        pub set-jumps : k ≡ 8 → {o : Outcome} → o ≡ refusedAt r LogicalEnd 11 → outcomeAt o s t ≡ execute row (setTo x) s t
         unfolding halt
         set-jumps z h = outcome-is s t h ∙ sym (answered-by _ (is-jump q z))
 

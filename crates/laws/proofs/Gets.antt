@@ -103,7 +103,7 @@ string-post row terminators self s t rd h =
     (at-bind (at-weak (λ e u x. ended-on 0 row self (goodLine true true) s s e u (gain-none s) (omega arith) x) (λ _ u d. d) (post-at (execute-post row (goodLine true true) s t (site-lower row self s rd (goodLine true true) h .0)))) λ _ b t d.
     let m = from-gain b rd (d .valid) (d .took) (d .claim .0) in
     at-character b t λ c. at-branch (oneOf terminators c)
-    (λ _. at-halt (stopped 1) (ended-on 0 row self self s b _ b (d .claim .0) (omega arith) (ended-here row self b (stopped 1) (m .ready) (omega arith))))
+    (λ _. at-halt (stopped 1) (ended-on 0 row self self s b _ b (d .claim .0) (omega arith) (ended-here row self b (stopped 1) (m .ready) refl)))
     (λ _. at-weak (λ e u x. ended-on 0 row self self s b e u (d .claim .0) (omega arith) x) (λ _ u o. on-further s b u (d .claim .0) o) (post-at (take-post row self b (m .ready) (omega arith) (d .claim .1) t)))) .post
 
 -- ---- get of a string, of which i characters stand in the output: what is left

@@ -12,3 +12,4 @@ pub mod Puts
 pub mod Gets
 pub mod Numbers
 pub mod Shown
+pub mod Given

@@ -10,9 +10,11 @@ use lib.ListN.{length, set}
 use borrow.Author.Tests.{eq-eqb, ne-eqb, lt-ltb, le-ltb, eqb-true, eqb-false}
 use Rattle.rules.specs.declared.Position.{Position}
 use Rattle.rules.specs.declared.Run.{Run}
+use Rattle.rules.specs.declared.Event as code
+use Rattle.rules.specs.declared.Event.the-variants.{LineEnd, Character}
 use Rattle.rules.specs.declared.Outcome.{Outcome}
 use Rattle.rules.specs.Book.{choose, place, before, within, nextCharacter, previousCharacter, characterIndex, State, state, onRun, here, endOf, shapeOf, rightsOf, lineHere, withEnd, movedTo, mendingOf, suggested, Event, lineEnd, Answer, kindOf, nextLine, inMood}
-use Rattle.rules.specs.Step.{Ending, Out, done, ends, Step, _>>=_, pure, halt, refuse, refuseAt, refusal, stopped, look, change, branch, test, need, outcomeGiving, outcome, doneBy, refusedBy, stoppedBy, fileEnded, pageEnded, lineEnded, pass, signal, store, endAfter, backspace, onEndLine}
+use Rattle.rules.specs.Step.{Ending, Out, done, ends, Step, _>>=_, pure, halt, refuse, refuseAt, refusal, stopped, look, change, branch, test, need, outcomeGiving, outcome, doneBy, refusedBy, refusedAt, stoppedBy, fileEnded, pageEnded, lineEnded, pass, signal, store, endAfter, backspace, onEndLine}
 use Rattle.rules.specs.Steps.{Action, goodFile, goodPage, goodLine, atLineEnd, newline, perform, answered, putCharacter, setCharacterNumber, printable, backspaces, signals, signalWhile, upon, goodLineBody, atLineEndBody, characterEvent, putCharacterBody, spaceStep, setCharacterNumberBody, body, stage, measure, execute}
 use Rattle.laws.specs.Follow.{followed}
 use Rattle.laws.specs.Runs.{onBy, storedBy}
@@ -32,15 +34,15 @@ goodPage-at-once row r w s t rd f p =
     held-stays _ _ _ _ s t (law-goodPage row r w s t rd) (sym (goodFile-stays row r w s t rf {x = doneBy (s .run)} f refl)) p
 
 -- a newline answered while reading, in a good page and on another line than the logical end's: only the position moves
-pub follow-newline : (row : List ℕ) (r : Bool) (w : ℕ) (s : State) (t : List ℕ) → Ready row (answered r (mendingOf w)) s → {k : ℕ} → k ≡ kindOf w → k ≡ 2 → s .run .file .reading ≡ true
+pub follow-newline : (row : List ℕ) (event : code.Event) (r : Bool) (w : ℕ) (s : State) (t : List ℕ) → Ready row (answered r (mendingOf w)) s → {k : ℕ} → k ≡ kindOf w → k ≡ 2 → s .run .file .reading ≡ true
     → fileEnded true (s .run) ≡ false → pageEnded (s .run) (s .lengths .pages) ≡ false → onEndLine (s .run) ≡ false
-    → {y y′ : Run} {x : Outcome} → y ≡ movedTo (s .run) (nextLine (here s)) → y′ ≡ inMood y r → x ≡ doneBy y′ → outcomeAt x s t ≡ followed row r w s t
-follow-newline row r w s t rd {k} i h e f p o {y} hy hm hx =
-    let rp = follow-perform row r w s t rd i .0 in
+    → {y y′ : Run} {x : Outcome} → y ≡ movedTo (s .run) (nextLine (here s)) → y′ ≡ inMood y r → x ≡ doneBy y′ → outcomeAt x s t ≡ followed row event r w s t
+follow-newline row event r w s t rd {k} i h e f p o {y} hy hm hx =
+    let rp = follow-perform row event r w s t rd i .0 in
     let rn = site-lower row (perform (mendingOf w)) s rp (newline true) (omega arith) .0 in
     let g = goodPage-at-once row true false s t (newline-page row true s t rn) f p in
     let n : done tt (onRun s y) t ≡ execute row (newline true) s t = newline-moves row true s t rn g o hy refl in
-    follow-done row r w s t rd i (λ z. let q : _≡_ {A = ℕ} 2 8 = sym h ∙ z in absurd (omega (arith, q))) (sym (perform-newline-reading row w s t rp i h e n)) hm hx
+    follow-done row event r w s t rd i (λ z. let q : _≡_ {A = ℕ} 2 8 = sym h ∙ z in absurd (omega (arith, q))) (sym (perform-newline-reading row w s t rp i h e n)) hm hx
 
 module _ (row : List ℕ) (r w : Bool) (s : State) (t : List ℕ) (rd : Ready row (goodLine r w) s) where
   pub law-goodLine : execute row (goodLine r w) s t ≡ (execute row (goodPage r w) >>= λ _. signalWhile lineEnded (execute row (atLineEnd r w)) (execute row (goodLine r w))) s t
@@ -76,8 +78,8 @@ module _ (row : List ℕ) (r w : Bool) (s : State) (t : List ℕ) (rd : Ready ro
   pub lineEnd-default : k ≡ 0 → w ≡ false → {z : Out (Unit {0})} → z ≡ execute row (newline r) (onRun s u) t → z ≡ execute row (atLineEnd r w) s t
   lineEnd-default y e g = g ∙ sym (law-lineEnd ∙ signals-default row lineEnd r _ t q y ∙ branch-false _ _ (onRun s u) t e)
 
-  pub lineEnd-follows : (k ≡ 0 → ⊥) → {z : Out (Unit {0})} → z ≡ followed row r c (onRun s u) t → z ≡ execute row (atLineEnd r w) s t
-  lineEnd-follows y g = g ∙ sym (law-lineEnd ∙ signals-followed row lineEnd r _ t q y)
+  pub lineEnd-follows : (k ≡ 0 → ⊥) → {z : Out (Unit {0})} → z ≡ followed row LineEnd r c (onRun s u) t → z ≡ execute row (atLineEnd r w) s t
+  lineEnd-follows y g = g ∙ sym (law-lineEnd ∙ signals-followed row lineEnd r _ t q y refl)
 
 -- ---- a character event at b
 
@@ -88,21 +90,21 @@ module _ (row : List ℕ) (r : Bool) (c : ℕ) {b : State} (t : List ℕ) {w k :
   answered-by a e = signal-then Event.character row _ b t ∙ ap (λ (a : Answer). upon Event.character a (λ m. execute row (answered r m) >>= λ _. pure (suggested m c)) (refuseAt Event.character 8) (heard row b) t) e
       ∙ ap (λ (z : State). upon Event.character a (λ m. execute row (answered r m) >>= λ _. pure (suggested m c)) (refuseAt Event.character 8) z t) (sym (after-event q))
 
-  pub event-refuses : k ≡ 0 → (a : ℕ) {x : Outcome} → x ≡ refusedBy u 8 → outcomeGiving a x t (b .lengths .lines) (b .lengths .pages) ≡ characterEvent row (execute row) r c b t
+  pub event-refuses : k ≡ 0 → (a : ℕ) {x : Outcome} → x ≡ refusedAt u Character 8 → outcomeGiving a x t (b .lengths .lines) (b .lengths .pages) ≡ characterEvent row (execute row) r c b t
   unfolding halt
   event-refuses z a h = ap (λ (o : Outcome). outcomeGiving a o t (b .lengths .lines) (b .lengths .pages)) h ∙ sym (answered-by _ (is-false q z))
 
   -- what follows the answer, followed by the suggestion
-  law-event : (k ≡ 0 → ⊥) → characterEvent row (execute row) r c b t ≡ (followed row r w >>= λ _. pure (suggested (mendingOf w) c)) (onRun b u) t
+  law-event : (k ≡ 0 → ⊥) → characterEvent row (execute row) r c b t ≡ (followed row Character r w >>= λ _. pure (suggested (mendingOf w) c)) (onRun b u) t
   unfolding halt
   law-event z = by (eqb k 8) refl
     where
-      by : (v : Bool) → eqb k 8 ≡ v → characterEvent row (execute row) r c b t ≡ (followed row r w >>= λ _. pure (suggested (mendingOf w) c)) (onRun b u) t
+      by : (v : Bool) → eqb k 8 ≡ v → characterEvent row (execute row) r c b t ≡ (followed row Character r w >>= λ _. pure (suggested (mendingOf w) c)) (onRun b u) t
       by true e = answered-by _ (is-jump q (eqb-true k 8 e)) ∙ sym (bind-ends _ _ (onRun b u) t (branch-true _ _ (onRun b u) t (ap (λ (n : ℕ). eqb n 8) (sym (q .kind)) ∙ e)))
       by false e = answered-by _ (is-true q z (eqb-false k 8 e)) ∙ same-then _ _ _ (onRun b u) t (sym (branch-false _ _ (onRun b u) t (ap (λ (n : ℕ). eqb n 8) (sym (q .kind)) ∙ e)))
 
-  pub event-follows : (k ≡ 0 → ⊥) → (o : Outcome) (t′ l p : List ℕ) → outcome o t′ l p ≡ followed row r w (onRun b u) t → {a : ℕ} → a ≡ suggested (mendingOf w) c → outcomeGiving a o t′ l p ≡ characterEvent row (execute row) r c b t
-  event-follows z o t′ l p h e = ap (λ (a : ℕ). outcomeGiving a o t′ l p) e ∙ with-value _ o t′ l p (followed row r w) (onRun b u) t h ∙ sym (law-event z)
+  pub event-follows : (k ≡ 0 → ⊥) → (o : Outcome) (t′ l p : List ℕ) → outcome o t′ l p ≡ followed row Character r w (onRun b u) t → {a : ℕ} → a ≡ suggested (mendingOf w) c → outcomeGiving a o t′ l p ≡ characterEvent row (execute row) r c b t
+  event-follows z o t′ l p h e = ap (λ (a : ℕ). outcomeGiving a o t′ l p) e ∙ with-value _ o t′ l p (followed row Character r w) (onRun b u) t h ∙ sym (law-event z)
 
 -- ---- put of a character: b is what good line gave
 

@@ -9,11 +9,13 @@ use lib.IntN.{ℤ, pos, negsuc}
 use lib.ListN.{length, set, getD, replicate, length-append, length-replicate}
 use lib.Seq.{sets}
 use borrow.Author.Tests.{le-leb, lt-leb, leb-true, leb-false, ltb-true, eq-eqb, ne-eqb, not-false}
+use Rattle.rules.specs.declared.Position.{Position}
 use Rattle.rules.specs.declared.Run.{Run}
+use Rattle.rules.specs.declared.Event.the-variants as code
 use Rattle.rules.specs.declared.Outcome.{Outcome}
-use Rattle.rules.specs.Book.{choose, within, nextCharacter, characterIndex, State, onRun, here, shapeOf, lineHere, movedTo, Event}
-use Rattle.rules.specs.Step.{Ending, Out, done, ends, Step, _>>=_, andThen, pure, change, halt, refuse, refuseAt, refusal, attempt, test, need, branch, pass, characterHere, outcomeGiving, outcome, doneBy, refusedBy}
-use Rattle.rules.specs.Steps.{Action, goodLine, atLineEnd, putCharacter, roomFor, passBlanks, moreDigits, printable, digit, fitsHere, isStop, signals, signalWhile, characterEvent, roomForBody, passBlanksBody, moreDigitsBody, body, stage, measure, execute}
+use Rattle.rules.specs.Book.{choose, within, nextCharacter, characterIndex, State, onRun, here, shapeOf, lineHere, movedTo, inMood, Event, Mending, suggest, Answer, isFalse, jump, isTrue, suggested}
+use Rattle.rules.specs.Step.{Ending, Out, done, ends, Step, _>>=_, andThen, pure, change, halt, refuse, refuseAt, refusal, refusalAt, attempt, test, need, branch, pass, look, characterHere, outcomeGiving, outcome, doneBy, refusedBy}
+use Rattle.rules.specs.Steps.{Action, perform, answered, goodLine, atLineEnd, putCharacter, roomFor, passBlanks, moreDigits, printable, digit, fitsHere, isStop, signals, signalWhile, upon, performBody, answeredBody, characterEvent, roomForBody, passBlanksBody, moreDigitsBody, body, stage, measure, execute}
 use Rattle.rules.specs.Whole.{digitsUpTo, digits, signed, padded, wholeText}
 use Rattle.rules.specs.Calls.{Value, nothing, anInteger, putCharacters, putText, firstDigit, withSign, integerGiven, signBefore, takeInteger}
 use Rattle.laws.specs.Runs.{storedBy, every}
@@ -21,10 +23,10 @@ use Rattle.laws.specs.Capped.{capped, withCap}
 use Rattle.laws.specs.Follow.{followed}
 use Rattle.laws.proofs.Order.{split}
 use Rattle.laws.proofs.Validity.{Valid, Near, near-at}
-use Rattle.laws.proofs.Progress.{Gain, Ready, LineGood, Done, Site, site-lower, ready-as, ready-on, gain-less, gain-trans, From, from-start, from-gain}
-use Rattle.laws.proofs.Walk.{Ended, Post, At, at-pure, at-change, at-halt, at-bind, at-branch, at-weak, at-first, at-character, ended-here, ended-on, pass-gain}
+use Rattle.laws.proofs.Progress.{Gain, Ready, LineGood, Done, Site, heard, answer, heard-took, heard-gain, site-later, site-lower, ready-as, ready-on, gain-less, gain-trans, From, from-start, from-gain}
+use Rattle.laws.proofs.Walk.{Ended, Post, At, at-pure, at-change, at-halt, at-bind, at-branch, at-weak, at-first, at-look, at-character, ended-here, ended-on, pass-gain}
 use Rattle.laws.proofs.Unfolding.{On, unfold-execute, execute-post}
-use Rattle.laws.proofs.Ways.{bind-done, bind-ends, attempt-done, attempt-ends, branch-true, branch-false, test-true, test-false, need-true, need-false, change-then, outcomeAt, outcome-is, post-done-of, done-of, with-value, same-then, Asked, signals-default, signals-followed, from-lower, while-stays, while-ends, while-again}
+use Rattle.laws.proofs.Ways.{bind-done, bind-ends, attempt-done, attempt-ends, branch-true, branch-false, test-true, test-false, need-true, need-false, change-then, look-then, signal-then, outcomeAt, outcome-is, post-done-of, done-of, with-value, same-then, Asked, signals-default, signals-followed, from-lower, while-stays, while-ends, while-again}
 use Rattle.laws.proofs.Lines.{stored-is}
 use Rattle.laws.proofs.Runs.{All, none, also, all-of, both-true, any-character, put-one, put-run, good-on, one-ready}
 use Rattle.laws.proofs.Gets.{character-then, passed, passed-ready, passed-on, passed-event, post-at, on-further}
@@ -225,10 +227,60 @@ module _ (row : List ℕ) (s : State) (t : List ℕ) (rd : Ready row passBlanks 
       pub blanks-on : On row b (onRun b y)
       blanks-on = subst (λ (r : Run). On row b (onRun b r)) (sym hy) (passed-on b (blanks-done .valid) (blanks-done .took) (blanks-done .claim .1))
 
+-- ---- a suggestion that is no digit: only kind 7 suggests one, and moves nothing
+
+given-is : (o : Out (Unit {0})) (a : ℕ) {c : ℕ} {u : State} {t : List ℕ} → andThen (λ _. pure a) o ≡ done c u t → a ≡ c
+unfolding pure
+given-is (done x s t) a h = cc
+given-is (ends x s t) a h = absurd (let z : _≡_ {A = ℕ} 0 1 = cc in omega arith)
+
+not-zero : {c : ℕ} → 48 ≡ c → digit c ≡ false → ⊥
+unfolding digit within
+not-zero h k = let z : true ≡ false = ap digit h ∙ k in let o : _≡_ {A = ℕ} 0 1 = cc in omega arith
+
+abbrev replied : List ℕ → Mending → Step ℕ
+replied row m = execute row (answered true m) >>= λ _. pure (suggested m 48)
+
+module _ (row : List ℕ) (s : State) (t : List ℕ) {action : Action} (rd : Ready row action s) where
+  -- the mood set again, after nothing was done
+  suggestion-done : (d : ℕ) → (answer row s ≡ isFalse → ⊥) → execute row (answered true (suggest d)) (heard row s) t ≡ done tt (onRun (heard row s) (inMood (heard row s .run) true)) t
+  unfolding body answeredBody performBody pure change
+  suggestion-done d z =
+      let ra = site-later row action s rd (answered true (suggest d)) (heard row s) (rd .valid) (heard-took row s (rd .took) .0) (heard-gain row s z) .0 in
+      let rp = site-lower row (answered true (suggest d)) (heard row s) ra (perform (suggest d)) (omega arith) .0 in
+      unfold-execute row (answered true (suggest d)) (heard row s) t ra ∙ bind-done _ _ (heard row s) t (unfold-execute row (perform (suggest d)) (heard row s) t rp)
+
+  -- any other kind leaves the "0" that was suggested
+  accepted : {c : ℕ} {u : State} {t′ : List ℕ} (m : Mending) → suggested m 48 ≡ 48 → replied row m (heard row s) t ≡ done c u t′ → digit c ≡ false → ⊥
+  unfolding _>>=_
+  accepted m e h k = not-zero (sym e ∙ given-is (execute row (answered true m) (heard row s) t) (suggested m 48) h) k
+
+  moves-nothing : {c : ℕ} {u : State} {t′ : List ℕ} (m : Mending) → answer row s ≡ isTrue m → replied row m (heard row s) t ≡ done c u t′ → digit c ≡ false → here u ≡ here s
+  unfolding _>>=_ suggested pure
+  moves-nothing {c} {u} {t′} (suggest d) a h k = let e = suggestion-done d (λ z. let o : _≡_ {A = ℕ} 0 1 = cc in omega arith) in
+      let g : done d (onRun (heard row s) (inMood (heard row s .run) true)) t ≡ done c u t′ = sym (ap (andThen (λ _. pure d)) e) ∙ h in
+      let w : onRun (heard row s) (inMood (heard row s .run) true) ≡ u = cc in
+      sym (ap here w)
+  moves-nothing Mending.nothing a h k = absurd (accepted Mending.nothing refl h k)
+  moves-nothing Mending.newline a h k = absurd (accepted Mending.newline refl h k)
+  moves-nothing Mending.newpage a h k = absurd (accepted Mending.newpage refl h k)
+  moves-nothing Mending.backspace a h k = absurd (accepted Mending.backspace refl h k)
+  moves-nothing Mending.reset a h k = absurd (accepted Mending.reset refl h k)
+  moves-nothing (Mending.setTo x) a h k = absurd (accepted (Mending.setTo x) refl h k)
+
+  unaccepted : {c : ℕ} {u : State} {t′ : List ℕ} → characterEvent row (execute row) true 48 s t ≡ done c u t′ → digit c ≡ false → here u ≡ here s
+  unfolding characterEvent halt
+  unaccepted {c} {u} {t′} f k = by (answer row s) refl (sym (signal-then Event.character row _ s t) ∙ f)
+    where
+      by : (a : Answer) → answer row s ≡ a → upon Event.character a (replied row) (refuseAt Event.character 8) (heard row s) t ≡ done c u t′ → here u ≡ here s
+      by isFalse e h = absurd (let o : _≡_ {A = ℕ} 0 1 = cc in omega arith)
+      by jump e h = absurd (let o : _≡_ {A = ℕ} 0 1 = cc in omega arith)
+      by (isTrue m) e h = moves-nothing m e h k
+
 -- ---- the first digit: b stands at s
 
 module _ (row : List ℕ) (s : State) (t : List ℕ) {b : ℕ} (e : b ≡ getD t (characterIndex (shapeOf s) (here s)) 0) where
-  law-first : firstDigit row s t ≡ branch (digit b) (pure b) (characterEvent row (execute row) true 48 >>= λ c. branch (digit c) (pure c) (refuseAt Event.character 8)) (passed s) t
+  law-first : firstDigit row s t ≡ branch (digit b) (pure b) (look here >>= λ x. characterEvent row (execute row) true 48 >>= λ c. branch (digit c) (pure c) (halt (refusalAt Event.character x 8))) (passed s) t
   unfolding firstDigit
   law-first = character-then _ s t e ∙ change-then _ _ s t
 
@@ -237,8 +289,8 @@ module _ (row : List ℕ) (s : State) (t : List ℕ) {b : ℕ} (e : b ≡ getD t
   first-there h = law-first ∙ branch-true _ _ (passed s) t h
 
   module _ (h : digit b ≡ false) where
-    law-suggested : firstDigit row s t ≡ (characterEvent row (execute row) true 48 >>= λ c. branch (digit c) (pure c) (refuseAt Event.character 8)) (passed s) t
-    law-suggested = law-first ∙ branch-false _ _ (passed s) t h
+    law-suggested : firstDigit row s t ≡ (characterEvent row (execute row) true 48 >>= λ c. branch (digit c) (pure c) (halt (refusalAt Event.character (here (passed s)) 8))) (passed s) t
+    law-suggested = law-first ∙ branch-false _ _ (passed s) t h ∙ look-then here _ (passed s) t
 
     pub first-ends : {x : Ending} {u : State} {t′ : List ℕ} → characterEvent row (execute row) true 48 (passed s) t ≡ ends x u t′ → firstDigit row s t ≡ ends x u t′
     first-ends f = law-suggested ∙ bind-ends _ _ (passed s) t f
@@ -248,17 +300,17 @@ module _ (row : List ℕ) (s : State) (t : List ℕ) {b : ℕ} (e : b ≡ getD t
       unfolding pure
       first-suggested k = law-suggested ∙ bind-done _ _ (passed s) t f ∙ branch-true _ _ u t′ k
 
-      pub first-refused : digit c ≡ false → firstDigit row s t ≡ ends (refusal 8) u t′
+      pub first-refused : {action : Action} → Ready row action (passed s) → digit c ≡ false → firstDigit row s t ≡ ends (refusalAt Event.character (here u) 8) u t′
       unfolding halt
-      first-refused k = law-suggested ∙ bind-done _ _ (passed s) t f ∙ branch-false _ _ u t′ k
+      first-refused rd k = law-suggested ∙ bind-done _ _ (passed s) t f ∙ branch-false _ _ u t′ k ∙ ap (λ (x : Position). ends (refusalAt Event.character x 8) u t′) (sym (unaccepted row (passed s) t rd f k))
 
 pub first-post : (row : List ℕ) (self : Action) (s : State) → Ready row self s → 1 ≤ stage self → LineGood true s → (t : List ℕ) → Post (Ended row self s) (λ c u. On row s u × (digit c ≡ true)) (firstDigit row s t)
 unfolding firstDigit
 first-post row self s rd h g t = (at-character {R = λ c u. On row s u × (digit c ≡ true)} s t λ b. at-first _ s t λ _. at-branch (digit b)
     (λ k. at-pure _ b (passed-on s (rd .valid) (rd .took) g, k))
-    (λ _. at-bind (post-at (passed-event row self s rd h g 48 t)) λ c u t o. at-branch (digit c)
+    (λ _. at-look here (passed s) t λ x _. at-bind (post-at (passed-event row self s rd h g 48 t)) λ c u t o. at-branch (digit c)
     (λ k. at-pure _ c (o, k))
-    (λ _. at-halt (refusal 8) (ended-on 15 row self self s u _ u (o .gain) (omega arith) (ended-here row self u (refusal 8) (ready-on row self s rd u (o .valid) (o .took) (gain-less (omega arith) (o .gain))) (omega arith)))))) .post
+    (λ _. at-halt (refusalAt Event.character x 8) (ended-on 15 row self self s u _ u (o .gain) (omega arith) (ended-here row self u (refusalAt Event.character x 8) (ready-on row self s rd u (o .valid) (o .took) (gain-less (omega arith) (o .gain))) refl))))) .post
 
 -- ---- more digits: v is the value so far
 
@@ -336,12 +388,12 @@ module _ (row : List ℕ) (minus : Bool) (v : ℕ) (s : State) (t : List ℕ) wh
     unfolding integerGiven
     law-above = branch-false _ _ s t (lt-leb v 2147483647 h)
 
-    pub given-refused : k ≡ 0 → integerGiven row minus v s t ≡ ends (refusal 9) (onRun s u) t
+    pub given-refused : k ≡ 0 → integerGiven row minus v s t ≡ ends (refusalAt Event.value (here (onRun s u)) 9) (onRun s u) t
     unfolding halt
     given-refused z = law-above ∙ bind-ends _ _ s t (signals-default row Event.value true _ t q z)
 
-    pub given-none : (k ≡ 0 → ⊥) → (o : Outcome) (t′ l p : List ℕ) → outcome o t′ l p ≡ followed row true w (onRun s u) t → outcomeGiving nothing o t′ l p ≡ integerGiven row minus v s t
-    given-none z o t′ l p f = with-value nothing o t′ l p (followed row true w) (onRun s u) t f ∙ sym (law-above ∙ same-at _ _ _ (signals-followed row Event.value true _ t q z))
+    pub given-none : (k ≡ 0 → ⊥) → (o : Outcome) (t′ l p : List ℕ) → outcome o t′ l p ≡ followed row code.Value true w (onRun s u) t → outcomeGiving nothing o t′ l p ≡ integerGiven row minus v s t
+    given-none z o t′ l p f = with-value nothing o t′ l p (followed row code.Value true w) (onRun s u) t f ∙ sym (law-above ∙ same-at _ _ _ (signals-followed row Event.value true _ t q z refl))
 
 -- ---- blanks, a sign, and blanks: b is where the first blanks end, c stands there
 

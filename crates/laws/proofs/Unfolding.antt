@@ -11,12 +11,13 @@ use borrow.Author.Tests.{ltb-true, eqb-true, not-false}
 use Rattle.rules.specs.declared.Position.{Position}
 use Rattle.rules.specs.declared.Run.{Run}
 use Rattle.rules.specs.Book.{choose, before, within, nextCharacter, nextLine, nextPage, inBounds, pageLength, State, onRun, here, endOf, shapeOf, rightsOf, lineHere, movedTo, Event, logicalEnd, physicalEnd, pageEnd, lineEnd, Mending, Answer, isFalse, isTrue, suggested}
-use Rattle.rules.specs.Step.{Ending, Step, _>>=_, refuse, refusal, stopped, branch, test, fileEnded, pageEnded, lineEnded, onEndPage, onEndLine, store}
-use Rattle.rules.specs.Steps.{Action, Gives, goodFile, goodPage, goodLine, atPageEnd, atLineEnd, newline, newpage, setTo, perform, answered, putCharacter, roomFor, passBlanks, moreDigits, setCharacterNumber, printable, digit, fitsHere, isStop, fileEnd, signals, signalWhile, goodFileBody, goodPageBody, atPageEndBody, goodLineBody, atLineEndBody, newlineBody, newpageBody, setToBody, performBody, answeredBody, characterEvent, putCharacterBody, roomForBody, passBlanksBody, moreDigitsBody, spaceStep, setCharacterNumberBody, body, rank, spentBy, stage, measure, bounded, execute}
+use Rattle.rules.specs.Step.{signalled, Ending, Step, _>>=_, refuseAt, refusal, refusalAt, stopped, branch, test, fileEnded, pageEnded, lineEnded, onEndPage, onEndLine, store}
+use Rattle.rules.specs.Steps.{Action, Gives, goodFile, goodPage, goodLine, atPageEnd, atLineEnd, newline, newpage, setTo, perform, answered, putCharacter, roomFor, passBlanks, moreDigits, setCharacterNumber, printable, digit, fitsHere, isStop, fileEnd, fileEndNumber, signals, signalWhile, goodFileBody, goodPageBody, atPageEndBody, goodLineBody, atLineEndBody, newlineBody, newpageBody, setToBody, performBody, answeredBody, characterEvent, putCharacterBody, roomForBody, passBlanksBody, moreDigitsBody, spaceStep, setCharacterNumberBody, body, rank, spentBy, stage, measure, bounded, execute}
+use Rattle.rules.specs.Told.{goesWith, known}
 use Rattle.laws.proofs.Order.{is-yes}
 use Rattle.laws.proofs.Validity.{Valid, Near, near-at, near-end, near-in, rules-moved, before-false, moveTo, toEnd, end-valid, end-further, writing-within, same-line, next-line-valid, next-page-valid, pass-valid, in-bounds}
 use Rattle.laws.proofs.Progress.{Gain, Answered, Ready, FileGood, Done, Site, site-lower, site-later, stage-le, gain-trans, gain-less, gain-heard, moved-gain, heard-none, gain-answered, From, from-start, from-gain, heard, answer, heard-took, heard-gain, answered-gain, site-default, default-gain}
-use Rattle.laws.proofs.Walk.{Ended, Post, At, at-pure, at-halt, at-change, at-bind, at-attempt, at-branch, at-test, at-weak, at-signal, at-first, at-look, at-character, at-need, at-upon, at-here, ended-here, ended-heard, ended-on, ended-default, Closed, at-endLine, at-endPage, pass-gain, at-store, still-heard, still-ended, good-before, at-mood, at-backspace, at-backspaces, at-reset}
+use Rattle.laws.proofs.Walk.{Ended, Post, At, at-pure, at-halt, at-refuse, at-change, at-bind, at-attempt, at-branch, at-test, at-weak, at-signal, at-first, at-look, at-character, at-need, at-upon, at-here, ended-here, ended-heard, ended-on, ended-default, Closed, at-endLine, at-endPage, pass-gain, at-store, still-heard, still-ended, good-before, at-mood, at-backspace, at-backspaces, at-reset}
 
 -- a state well further on than b
 pub record On (row : List ℕ) (b u : State) : Type 0 where
@@ -32,6 +33,19 @@ pub record Next (row : List ℕ) (s u : State) : Type 0 where
 
 true-not : {a : Answer} (m : Mending) → a ≡ isTrue m → a ≡ isFalse → ⊥
 true-not m p q = let o : _≡_ {A = ℕ} 0 1 = cc in omega arith
+
+-- 11 goes with every event, and each end of a file with its own number
+jump-known : (event : Event) (x : Position) → goesWith (signalled event x) 11 ≡ true
+jump-known logicalEnd x = refl
+jump-known physicalEnd x = refl
+jump-known pageEnd x = refl
+jump-known lineEnd x = refl
+jump-known Event.character x = refl
+jump-known Event.value x = refl
+
+file-known : (r : Bool) (x : Position) → goesWith (signalled (fileEnd r) x) (fileEndNumber r) ≡ true
+file-known true x = refl
+file-known false x = refl
 
 end-gain : (s : State) → Valid s → Gain 0 (s .run) (toEnd s .run)
 end-gain s v = moved-gain s (endOf s) 0 (omega (arith, v .order))
@@ -67,11 +81,18 @@ module _ (row : List ℕ) (f g : (action : Action) → Step (Gives action)) wher
     at-answer e inner t = at-later inner (heard row b) t (m .ready .valid) (heard-took row b (m .ready .took) .0) (heard-gain row b e)
 
     -- a refusal right after an event
-    heard-end : (e : Ending) → e .number ≤ 12 → 1 ≤ stage self → Ended row self s e (heard row b)
+    heard-end : (e : Ending) → known e ≡ true → 1 ≤ stage self → Ended row self s e (heard row b)
     heard-end e k h = ended-on 0 row self self s b e (heard row b) (m .gain) (omega arith) (ended-heard row self b e (m .ready) k h)
 
+    -- by the event's default, and by answer 8
+    at-refused : {A : Type 0} {Q : A → State → Type 0} (event : Event) (n : ℕ) (t : List ℕ) → goesWith (signalled event (here b)) n ≡ true → 1 ≤ stage self → At (Ended row self s) Q (refuseAt event n) (refuseAt event n) (heard row b) t
+    at-refused event n t k h = at-refuse event n (heard-end (refusalAt event (here b) n) k h)
+
+    jump-end : (event : Event) → 1 ≤ stage self → Ended row self s (refusalAt event (here b) 11) (heard row b)
+    jump-end event h = heard-end (refusalAt event (here b) 11) (jump-known event (here b)) h
+
     -- a refusal at b
-    here-end : (e : Ending) → e .number ≤ 12 → Ended row self s e b
+    here-end : (e : Ending) → known e ≡ true → Ended row self s e b
     here-end e k = ended-on 0 row self self s b e b (m .gain) (omega arith) (ended-here row self b e (m .ready) k)
 
     on-answered : (answer row b ≡ isFalse → ⊥) → (u : State) → Valid u → u .run .taken ≤ length row → Answered (heard row b .run) (u .run) → On row b u
@@ -80,7 +101,7 @@ module _ (row : List ℕ) (f g : (action : Action) → Step (Gives action)) wher
     at-signals : (event : Event) (reading : Bool) {d d′ : Step (Unit {0})} (t : List ℕ) → 1 ≤ stage self
         → At (Ended row self s) (λ _ u. On row b u) d d′ (heard row b) t → At (Ended row self s) (λ _ u. On row b u) (signals row f event reading d) (signals row g event reading d′) b t
     unfolding signals
-    at-signals event reading t h hd = at-signal event row b t λ a w. at-upon event a hd (heard-end (refusal 11) (omega arith) h)
+    at-signals event reading t h hd = at-signal event row b t λ a w. at-upon event a hd (jump-end event h)
         (λ x e. at-weak (λ e u y. y) (λ _ u d. on-answered (true-not x (sym w ∙ e)) u (d .valid) (d .took) (d .claim)) (at-answer (true-not x (sym w ∙ e)) (answered reading x) t))
 
     at-while : {Q : Unit {0} → State → Type 0} (ended : State → Bool) {event event′ afresh afresh′ : Step (Unit {0})} (t : List ℕ)
@@ -93,7 +114,7 @@ module _ (row : List ℕ) (f g : (action : Action) → Step (Gives action)) wher
 
     at-characterEvent : (reading : Bool) (c : ℕ) (t : List ℕ) → 1 ≤ stage self → At (Ended row self s) (λ _ u. On row b u) (characterEvent row f reading c) (characterEvent row g reading c) b t
     unfolding characterEvent
-    at-characterEvent reading c t h = at-signal Event.character row b t λ a w. at-upon Event.character a (at-halt (refusal 8) (heard-end (refusal 8) (omega arith) h)) (heard-end (refusal 11) (omega arith) h)
+    at-characterEvent reading c t h = at-signal Event.character row b t λ a w. at-upon Event.character a (at-refused Event.character 8 t refl h) (jump-end Event.character h)
         (λ x e. at-bind (at-answer (true-not x (sym w ∙ e)) (answered reading x) t) λ _ u t d. at-pure (λ _ u. On row b u) (suggested x c) (on-answered (true-not x (sym w ∙ e)) u (d .valid) (d .took) (d .claim)))
 
     -- after an event, the same action again
@@ -111,7 +132,7 @@ module _ (row : List ℕ) (f g : (action : Action) → Step (Gives action)) wher
       let m = from-start rd in
       at-while ag m (λ s. fileEnded r (s .run)) t
       (λ e. record { valid = rd .valid; took = rd .took; claim = (m .gain, e) })
-      (at-signals ag m (fileEnd r) r t (omega arith) (at-branch w (λ _. at-halt (stopped 3) (heard-end ag m (stopped 3) (omega arith) (omega arith))) (λ _. at-halt (refusal 7) (heard-end ag m (refusal 7) (omega arith) (omega arith)))))
+      (at-signals ag m (fileEnd r) r t (omega arith) (at-branch w (λ _. at-halt (stopped 3) (heard-end ag m (stopped 3) refl (omega arith))) (λ _. at-refused ag m (fileEnd r) (fileEndNumber r) t (file-known r (here s)) (omega arith))))
       (λ u t o. at-weak (λ e u y. y) (λ _ v d. record { valid = d .valid; took = d .took; claim = (gain-less (omega arith) (gain-trans (o .gain) (d .claim .0)), d .claim .1) }) (at-afresh ag m (goodFile r w) u t o))
 
   goodPage-step : (r w : Bool) → Steps (goodPage r w) (goodPageBody row f r w) (goodPageBody row g r w)
@@ -148,7 +169,7 @@ module _ (row : List ℕ) (f g : (action : Action) → Step (Gives action)) wher
       let m = from-start rd in
       at-weak (λ e u y. y) (λ _ u o. record { valid = o .valid; took = o .took; claim = o .gain })
       (at-signals ag m lineEnd r t (omega arith)
-      (at-branch w (λ _. at-halt (stopped 2) (heard-end ag m (stopped 2) (omega arith) (omega arith)))
+      (at-branch w (λ _. at-halt (stopped 2) (heard-end ag m (stopped 2) refl (omega arith)))
       (λ _. at-weak (λ e u y. y) (λ _ u x. record { valid = x .valid; took = x .took; gain = default-gain row (atLineEnd r w) s (u .run) rd (x .claim) }) (at-default ag m (newline r) t (omega arith)))))
 
   reads : (r : Bool) (b : State) → r ≡ true → FileGood r b → FileGood true b
@@ -195,8 +216,8 @@ module _ (row : List ℕ) (f g : (action : Action) → Step (Gives action)) wher
       at-need 4 (λ s. rightsOf s .«set») s t
       (λ _ _. at-test (λ s. before (endOf s) x)
       (λ o. at-first _ s t λ _. at-signal logicalEnd row (toEnd s) t λ a w. at-upon logicalEnd a
-      (at-halt (refusal 7) (heard-end ag me (refusal 7) (omega arith) (omega arith)))
-      (heard-end ag me (refusal 11) (omega arith) (omega arith))
+      (at-refused ag me logicalEnd 14 t refl (omega arith))
+      (jump-end ag me logicalEnd (omega arith))
       (λ y e. at-weak (λ e u z. z) (λ _ u d. record { valid = d .valid; took = d .took; claim = gain-answered s u (d .valid) (gain-trans (me .gain) (on-answered ag me (true-not y (sym w ∙ e)) u (d .valid) (d .took) (d .claim) .gain)) })
       (at-answer ag me (true-not y (sym w ∙ e)) (perform y) t)))
       (λ o. at-need 6 (λ s. inBounds (shapeOf s) (s .lengths) x) s t
@@ -204,8 +225,8 @@ module _ (row : List ℕ) (f g : (action : Action) → Step (Gives action)) wher
       let b = in-bounds (shapeOf s) (s .lengths) x (is-yes _ i) in
       let v = rules-moved (rd .valid) x b (before-false (endOf s) x (near-end (rd .valid)) (near-in (rd .valid) x b) o) in
       at-change _ _ (record { valid = v; took = rd .took; claim = heard-none s (rd .valid) }))
-      (λ _. here-end ag m (refusal 6) (omega arith))))
-      (λ _. here-end ag m (refusal 4) (omega arith))
+      (λ _. here-end ag m (refusal 6) refl)))
+      (λ _. here-end ag m (refusal 4) refl)
 
   perform-step : (x : Mending) → Steps (perform x) (performBody row f x) (performBody row g x)
   unfolding performBody
@@ -213,15 +234,15 @@ module _ (row : List ℕ) (f g : (action : Action) → Step (Gives action)) wher
   perform-step (Mending.suggest c) s t rd ag = at-pure _ tt (record { valid = rd .valid; took = rd .took; claim = heard-none s (rd .valid) })
   perform-step Mending.newline s t rd ag = let m = from-start rd in at-mood s t
       (λ r t. at-weak (λ e u y. y) (λ _ u d. record { valid = d .valid; took = d .took; claim = gain-answered s u (d .valid) (d .claim) }) (at-lower ag m (newline r) t (omega arith)))
-      (here-end ag m (refusal 5) (omega arith))
+      (here-end ag m (refusal 5) refl)
   perform-step Mending.newpage s t rd ag = let m = from-start rd in at-mood s t
       (λ r t. at-weak (λ e u y. y) (λ _ u d. record { valid = d .valid; took = d .took; claim = gain-answered s u (d .valid) (d .claim) }) (at-lower ag m (newpage r) t (omega arith)))
-      (here-end ag m (refusal 5) (omega arith))
+      (here-end ag m (refusal 5) refl)
   perform-step (Mending.setTo x) s t rd ag = at-weak (λ e u y. y) (λ _ u d. record { valid = d .valid; took = d .took; claim = d .claim }) (at-lower ag (from-start rd) (setTo x) t (omega arith))
   perform-step Mending.backspace s t rd ag = at-weak (λ e u y. y) (λ _ u x. record { valid = x .valid; took = omega (arith, x .taken, rd .took); claim = still-heard s u (rd .valid) x })
-      (at-backspace s t (rd .valid) (here-end ag (from-start rd) (refusal 6) (omega arith)))
+      (at-backspace s t (rd .valid) (here-end ag (from-start rd) (refusal 6) refl))
   perform-step Mending.reset s t rd ag = at-weak (λ e u y. y) (λ _ u x. record { valid = x .valid; took = omega (arith, x .taken, rd .took); claim = still-heard s u (rd .valid) x })
-      (at-reset s t (rd .valid) (here-end ag (from-start rd) (refusal 4) (omega arith)))
+      (at-reset s t (rd .valid) (here-end ag (from-start rd) (refusal 4) refl))
 
   answered-step : (r : Bool) (x : Mending) → Steps (answered r x) (answeredBody row f r x) (answeredBody row g r x)
   unfolding answeredBody
@@ -250,7 +271,7 @@ module _ (row : List ℕ) (f g : (action : Action) → Step (Gives action)) wher
       (λ e. record { valid = d .valid; took = d .took; claim = (m .gain, (d .claim .1, fits-true (fitsHere w b) e)) })
       (at-weak (λ e u y. y) (λ _ u x. record { valid = x .valid; took = x .took; gain = x .claim }) (at-lower ag m (atLineEnd false false) t (omega arith)))
       (λ u t o. at-weak (λ e u y. y) (λ _ v x. record { valid = x .valid; took = x .took; claim = (gain-less (omega arith) (gain-trans (m .gain) (gain-trans (o .gain) (x .claim .0))), x .claim .1) }) (at-afresh ag m (roomFor w) u t o)))
-      (λ _. here-end ag m (refusal 10) (omega arith))
+      (λ _. here-end ag m (refusal 10) refl)
 
   -- a character passed on a good line
   passed : (b : State) → Valid b → FileGood true b → lineEnded b ≡ false → Valid (moveTo (nextCharacter (here b)) b)
@@ -308,8 +329,8 @@ module _ (row : List ℕ) (f g : (action : Action) → Step (Gives action)) wher
       at-weak (λ e u y. y) (λ _ v x. record { valid = x .valid; took = x .took; claim = gain-heard (o .gain) (x .claim) })
       (at-later ag m (setCharacterNumber r n) u t (o .valid) (o .took) (gain-less (omega arith) (o .gain))))
       (λ _. at-look _ s t λ k w. at-weak (λ e u y. y) (λ _ u x. record { valid = x .valid; took = omega (arith, x .taken, rd .took); claim = still-heard s u (rd .valid) x })
-      (at-backspaces k s s t (λ u x. still-ended row (setCharacterNumber r n) s u _ rd (omega arith) x) (record { valid = rd .valid; events = refl; taken = refl }))))
-      (λ _. here-end ag m (refusal 6) (omega arith)))
+      (at-backspaces k s s t (λ u x. still-ended row (setCharacterNumber r n) s u _ rd refl x) (record { valid = rd .valid; events = refl; taken = refl }))))
+      (λ _. here-end ag m (refusal 6) refl))
 
   body-step : (action : Action) → Steps action (body row f action) (body row g action)
   unfolding body
@@ -346,7 +367,7 @@ pub unfold-execute : (row : List ℕ) (action : Action) (s : State) (t : List �
 unfolding execute bounded
 unfold-execute row action s t rd = body-step row (bounded row (measure row action s)) (execute row) action s t rd (λ action′ s′ t′ rd′ h. execute-at row action′ s′ t′ (measure row action s) rd′ h) .same
 
--- WHAT AN ACTION KEEPS: a number of document 01, never the bound's; the book's rules; the counts of answers and events
+-- WHAT AN ACTION KEEPS: a number of documents 01 and 02 with its event, never the bound's; the book's rules; the counts of answers and events
 pub execute-post : (row : List ℕ) (action : Action) (s : State) (t : List ℕ) → Ready row action s → Post (Ended row action s) (λ _ u. Done row action s u) (execute row action s t)
 unfolding execute
 execute-post row action s t rd = enough row (suc (measure row action s)) (suc (measure row action s)) action s t rd (omega arith) (omega arith) .post
@@ -361,6 +382,6 @@ space-post row self r s t rd h = at-space row (execute row) (execute row) (execu
 pub event-post : (row : List ℕ) (self : Action) (r : Bool) (c : ℕ) (s : State) (t : List ℕ) → Ready row self s → 1 ≤ stage self → Post (Ended row self s) (λ _ u. On row s u) (characterEvent row (execute row) r c s t)
 event-post row self r c s t rd h = at-characterEvent row (execute row) (execute row) (execute-agree row (measure row self s)) (from-start rd) r c t h .post
 
-pub signals-post : (row : List ℕ) (self : Action) (event : Event) (r : Bool) (n : ℕ) (s : State) (t : List ℕ) → Ready row self s → 1 ≤ stage self → n ≤ 12
-    → Post (Ended row self s) (λ _ u. On row s u) (signals row (execute row) event r (refuse n) s t)
-signals-post row self event r n s t rd h k = let ag = execute-agree row (measure row self s) in at-signals row (execute row) (execute row) ag (from-start rd) event r t h (at-halt (refusal n) (heard-end row (execute row) (execute row) ag (from-start rd) (refusal n) k h)) .post
+pub signals-post : (row : List ℕ) (self : Action) (event : Event) (r : Bool) (n : ℕ) (s : State) (t : List ℕ) → Ready row self s → 1 ≤ stage self → goesWith (signalled event (here s)) n ≡ true
+    → Post (Ended row self s) (λ _ u. On row s u) (signals row (execute row) event r (refuseAt event n) s t)
+signals-post row self event r n s t rd h k = let ag = execute-agree row (measure row self s) in at-signals row (execute row) (execute row) ag (from-start rd) event r t h (at-refused row (execute row) (execute row) ag (from-start rd) event n t k h) .post

@@ -11,14 +11,15 @@ use borrow.Author.Tests.{ltb-true, ltb-false, not-false}
 use Rattle.rules.specs.declared.Position.{Position}
 use Rattle.rules.specs.declared.Run.{Run}
 use Rattle.rules.specs.Book.{choose, place, before, nextCharacter, previousCharacter, nextLine, nextPage, characterIndex, lineIndex, pageLength, State, onRun, here, endOf, shapeOf, rightsOf, lineHere, movedTo, bothMovedTo, signalledBy, nextWord, Event, Mending, Answer, isFalse, isTrue, jump, answerOf}
-use Rattle.rules.specs.Step.{Ending, Out, done, ends, Step, _>>=_, andThen, caught, pure, halt, refuse, refusal, stopped, attempt, look, change, changeRun, branch, test, need, fileEnded, pageEnded, lineEnded, onEndPage, onEndLine, pass, signal, moodOn, backspace, reset, characterHere, endAfter, store, cutLine, fillLine, endLine, cutPage, fillPage, endPage}
+use Rattle.rules.specs.Step.{Ending, Out, done, ends, Step, _>>=_, andThen, caught, pure, halt, refuse, refuseAt, refusal, refusalAt, stopped, attempt, look, change, changeRun, branch, test, need, fileEnded, pageEnded, lineEnded, onEndPage, onEndLine, pass, signal, moodOn, backspace, reset, characterHere, endAfter, store, cutLine, fillLine, endLine, cutPage, fillPage, endPage}
 use Rattle.rules.specs.Steps.{Action, backspaces, upon, rank, spent, spentBy, stage}
+use Rattle.rules.specs.Told.{known}
 use Rattle.laws.proofs.Validity.{Valid, Rules, Near, near-at, near-end, near-in, stored-valid, stored-before, back-valid, first-valid, cut-line-fits, cut-page-fits, next-line-both, next-page-both}
 use Rattle.laws.proofs.Progress.{Grown, Gain, Answered, Ready, FileGood, moved-gain, heard, answer, heard-took}
 
 -- what a step leaves where it ends the call
 pub record Ended (row : List ℕ) (action : Action) (s : State) (e : Ending) (u : State) : Type 0 where
-  pub known : e .number ≤ 12
+  pub told : known e ≡ true
   pub valid : Valid u
   pub took : u .run .taken ≤ length row
   pub more : s .run .events ≤ u .run .events
@@ -42,6 +43,10 @@ at-pure Q a q = record { same = refl; post = post-done q }
 pub at-halt : {A : Type 0} {E : Ending → State → Type 0} {Q : A → State → Type 0} {s : State} {t : List ℕ} (e : Ending) → E e s → At E Q (halt e) (halt e) s t
 unfolding halt
 at-halt e q = record { same = refl; post = post-ends q }
+
+pub at-refuse : {A : Type 0} {E : Ending → State → Type 0} {Q : A → State → Type 0} {s : State} {t : List ℕ} (event : Event) (n : ℕ) → E (refusalAt event (here s) n) s → At E Q (refuseAt event n) (refuseAt event n) s t
+unfolding halt
+at-refuse event n q = record { same = refl; post = post-ends q }
 
 pub at-change : {E : Ending → State → Type 0} {s : State} {t : List ℕ} (Q : Unit {0} → State → Type 0) (f : State → State) → Q tt (f s) → At E Q (change f) (change f) s t
 unfolding change
@@ -123,17 +128,17 @@ at-need {k = k} {k′ = k′} n f s t h e = let x = need-case n (f s) k k′ s t
 
 -- an event's answer
 pub at-upon : {A : Type 0} {E : Ending → State → Type 0} {Q : A → State → Type 0} {s : State} {t : List ℕ} (event : Event) (a : Answer) {f f′ : Mending → Step A} {d d′ : Step A}
-    → At E Q d d′ s t → E (refusal 11) s → ((m : Mending) → a ≡ isTrue m → At E Q (f m) (f′ m) s t) → At E Q (upon event a f d) (upon event a f′ d′) s t
+    → At E Q d d′ s t → E (refusalAt event (here s) 11) s → ((m : Mending) → a ≡ isTrue m → At E Q (f m) (f′ m) s t) → At E Q (upon event a f d) (upon event a f′ d′) s t
 at-upon event isFalse hd hj hf = hd
-at-upon event jump hd hj hf = at-halt (refusal 11) hj
+at-upon event jump hd hj hf = at-refuse event 11 hj
 at-upon event (isTrue m) hd hj hf = hf m refl
 
 -- ---- endings
 
-module _ (row : List ℕ) (action : Action) (s : State) (e : Ending) (rd : Ready row action s) (k : e .number ≤ 12) where
+module _ (row : List ℕ) (action : Action) (s : State) (e : Ending) (rd : Ready row action s) (k : known e ≡ true) where
   pub ended-here : Ended row action s e s
   unfolding spent
-  ended-here = let b : Near (here s) = near-at (rd .valid) in record { known = k; valid = rd .valid; took = rd .took; more = omega arith; counted = omega (arith, b) }
+  ended-here = let b : Near (here s) = near-at (rd .valid) in record { told = k; valid = rd .valid; took = rd .took; more = omega arith; counted = omega (arith, b) }
 
   -- right after an event
   pub ended-heard : 1 ≤ stage action → Ended row action s e (heard row s)
@@ -141,17 +146,17 @@ module _ (row : List ℕ) (action : Action) (s : State) (e : Ending) (rd : Ready
   ended-heard h =
       let b : Near (here s) = near-at (rd .valid) in
       let t = heard-took row s (rd .took) in
-      record { known = k; valid = rd .valid; took = t .0; more = omega arith; counted = omega (arith, b, t) }
+      record { told = k; valid = rd .valid; took = t .0; more = omega arith; counted = omega (arith, b, t) }
 
 -- an inner action's ending is the outer's: further on by a gain, or after an event at a lower stage
 pub ended-on : (k : ℕ) (row : List ℕ) (action inner : Action) (s u : State) (e : Ending) (r : State) → Gain k (s .run) (u .run) → stage inner ≤ stage action + k → Ended row inner u e r → Ended row action s e r
-ended-on k row action inner s u e r g h x = record { known = x .known; valid = x .valid; took = x .took; more = omega (arith, g .more, x .more); counted = omega (arith, g .gains, x .counted) }
+ended-on k row action inner s u e r g h x = record { told = x .told; valid = x .valid; took = x .took; more = omega (arith, g .more, x .more); counted = omega (arith, g .gains, x .counted) }
 
 pub ended-default : (row : List ℕ) (action inner : Action) (s : State) (e : Ending) (r : State) → Ready row action s → stage inner < stage action → Ended row inner (heard row s) e r → Ended row action s e r
 unfolding spent
 ended-default row action inner s e r rd h x =
     let t = heard-took row s (rd .took) in
-    record { known = x .known; valid = x .valid; took = x .took; more = omega (arith, x .more); counted = omega (arith, x .counted, t) }
+    record { told = x .told; valid = x .valid; took = x .took; more = omega (arith, x .more); counted = omega (arith, x .counted, t) }
 
 -- ---- the ends of lines and pages, a character stored, and the other steps that signal nothing
 
@@ -218,9 +223,9 @@ pub still-heard : (s u : State) → Valid s → Still s u → Answered (s .run) 
 unfolding spent
 still-heard s u v x = let b : Near (here s) = near-at v in record { more = omega (arith, x .events); gains = omega (arith, x .events, x .taken, b) }
 
-pub still-ended : (row : List ℕ) (action : Action) (s u : State) (e : Ending) → Ready row action s → e .number ≤ 12 → Still s u → Ended row action s e u
+pub still-ended : (row : List ℕ) (action : Action) (s u : State) (e : Ending) → Ready row action s → known e ≡ true → Still s u → Ended row action s e u
 unfolding spent
-still-ended row action s u e rd k x = let b : Near (here s) = near-at (rd .valid) in record { known = k; valid = x .valid; took = omega (arith, x .taken, rd .took); more = omega (arith, x .events); counted = omega (arith, x .events, x .taken, b) }
+still-ended row action s u e rd k x = let b : Near (here s) = near-at (rd .valid) in record { told = k; valid = x .valid; took = omega (arith, x .taken, rd .took); more = omega (arith, x .events); counted = omega (arith, x .events, x .taken, b) }
 
 pub good-before : (s : State) → FileGood true s → before (here s) (endOf s) ≡ true
 unfolding fileEnded

@@ -8,12 +8,14 @@ use mathlib.Core.Bool.{Bool, true, false, not}
 use lib.Dec.{ltb, eqb}
 use lib.ListN.{length}
 use borrow.Author.Tests.{eq-eqb, ne-eqb, eqb-true, eqb-false}
+use Rattle.rules.specs.declared.Position.{Position}
 use Rattle.rules.specs.declared.Run.{Run}
+use Rattle.rules.specs.declared.Event as code
 use Rattle.rules.specs.declared.Outcome.{Outcome}
-use Rattle.rules.specs.Book.{choose, State, state, onRun, inMood, signalledBy, nextWord, kindOf, mendingOf, Event, Mending, Answer, isFalse, isTrue, jump, answerOf}
-use Rattle.rules.specs.Step.{Ending, endingBy, Out, done, ends, Step, _>>=_, andThen, caught, pure, halt, refuse, refuseAt, refusal, attempt, look, change, branch, test, need, going, outcomeGiving, outcome, signal}
+use Rattle.rules.specs.Book.{choose, State, state, onRun, inMood, signalledBy, nextWord, kindOf, mendingOf, here, Event, logicalEnd, physicalEnd, pageEnd, lineEnd, Mending, Answer, isFalse, isTrue, jump, answerOf}
+use Rattle.rules.specs.Step.{Told, signalled, endingBy, toldBy, eventAs, Ending, Out, done, ends, Step, _>>=_, andThen, caught, pure, halt, refuse, refuseAt, refusal, attempt, look, change, branch, test, need, going, outcomeGiving, outcome, signal}
 use Rattle.rules.specs.Steps.{Action, Gives, answered, signals, signalWhile, upon, stage, measure, execute}
-use Rattle.laws.specs.Follow.{followed}
+use Rattle.laws.specs.Follow.{refuseBy, followed}
 use Rattle.laws.proofs.Validity.{Valid}
 use Rattle.laws.proofs.Progress.{Gain, Answered, Ready, Done, Site, site-lower, site-later, gain-less, gain-trans, From, from-start, from-gain, from-trans, heard, answer, heard-gain, answered-gain, heard-took, site-default, default-gain}
 use Rattle.laws.proofs.Walk.{Ended, Post, post-done, post-ends}
@@ -231,38 +233,51 @@ module _ {row : List ℕ} {self : Action} {s b : State} (m : From row self s b) 
 
 -- ---- an event and its answer
 
+-- an event of the code tells what the event does
+pub told-as : (event : Event) (x : Position) → toldBy (eventAs event) x ≡ signalled event x
+told-as logicalEnd x = refl
+told-as physicalEnd x = refl
+told-as pageEnd x = refl
+told-as lineEnd x = refl
+told-as Event.character x = refl
+told-as Event.value x = refl
+
+pub refuse-as : {A : Type 0} {e : code.Event} (event : Event) (n : ℕ) (s : State) (t : List ℕ) → e ≡ eventAs event → refuseBy {A = A} e n s t ≡ refuseAt event n s t
+unfolding halt
+refuse-as event n s t i = ap (λ (z : code.Event). ends (record { number = n; stop = 0; told = toldBy z (here s) }) s t) i ∙ ap (λ (z : Told). ends (record { number = n; stop = 0; told = z }) s t) (told-as event (here s))
+
 module _ (row : List ℕ) (event : Event) (reading : Bool) (default : Step (Unit {0})) {b : State} (t : List ℕ) {w k : ℕ} {r : Run} (q : Asked row b w k r) where
   pub signals-default : k ≡ 0 → signals row (execute row) event reading default b t ≡ default (onRun b r) t
   unfolding signals
   signals-default z = signal-then event row _ b t ∙ ap (λ (a : Answer). upon event a (λ m. execute row (answered reading m)) default (heard row b) t) (is-false q z) ∙ ap (λ (y : State). default y t) (sym (after-event q))
 
-  pub signals-followed : (k ≡ 0 → ⊥) → signals row (execute row) event reading default b t ≡ followed row reading w (onRun b r) t
+  pub signals-followed : (k ≡ 0 → ⊥) → {e : code.Event} → e ≡ eventAs event → signals row (execute row) event reading default b t ≡ followed row e reading w (onRun b r) t
   unfolding signals
-  signals-followed z = signal-then event row _ b t ∙ by (eqb k 8) refl
+  signals-followed z {e = e′} i = signal-then event row _ b t ∙ by (eqb k 8) refl
     where
-      by : (c : Bool) → eqb k 8 ≡ c → upon event (answer row b) (λ m. execute row (answered reading m)) default (heard row b) t ≡ followed row reading w (onRun b r) t
+      by : (c : Bool) → eqb k 8 ≡ c → upon event (answer row b) (λ m. execute row (answered reading m)) default (heard row b) t ≡ followed row e′ reading w (onRun b r) t
       by true e =
           let j : k ≡ 8 = eqb-true k 8 e in
           ap (λ (a : Answer). upon event a (λ m. execute row (answered reading m)) default (heard row b) t) (is-jump q j)
-          ∙ ap (λ (y : State). refuse {A = Unit {0}} 11 y t) (sym (after-event q)) ∙ sym (branch-true _ _ (onRun b r) t (ap (λ (n : ℕ). eqb n 8) (sym (q .kind)) ∙ e))
+          ∙ ap (λ (y : State). refuseAt {A = Unit {0}} event 11 y t) (sym (after-event q)) ∙ sym (refuse-as event 11 (onRun b r) t i) ∙ sym (branch-true _ _ (onRun b r) t (ap (λ (n : ℕ). eqb n 8) (sym (q .kind)) ∙ e))
       by false e =
           let j : k ≡ 8 → ⊥ = eqb-false k 8 e in
           ap (λ (a : Answer). upon event a (λ m. execute row (answered reading m)) default (heard row b) t) (is-true q z j)
           ∙ ap (λ (y : State). execute row (answered reading (mendingOf w)) y t) (sym (after-event q)) ∙ sym (branch-false _ _ (onRun b r) t (ap (λ (n : ℕ). eqb n 8) (sym (q .kind)) ∙ e))
 
 -- what follows a true answer, when it is done
-pub followed-done : (row : List ℕ) (reading : Bool) (w : ℕ) (s : State) {u : State} (t : List ℕ) {t′ : List ℕ} → followed row reading w s t ≡ done tt u t′ → execute row (answered reading (mendingOf w)) s t ≡ done tt u t′
+pub followed-done : (row : List ℕ) (event : code.Event) (reading : Bool) (w : ℕ) (s : State) {u : State} (t : List ℕ) {t′ : List ℕ} → followed row event reading w s t ≡ done tt u t′ → execute row (answered reading (mendingOf w)) s t ≡ done tt u t′
 unfolding branch halt
-followed-done row reading w s {u} t {t′} h = by (eqb (kindOf w) 8) h
+followed-done row event reading w s {u} t {t′} h = by (eqb (kindOf w) 8) h
   where
-    by : (c : Bool) → branch c (refuse 11) (execute row (answered reading (mendingOf w))) s t ≡ done tt u t′ → execute row (answered reading (mendingOf w)) s t ≡ done tt u t′
+    by : (c : Bool) → branch c (refuseBy event 11) (execute row (answered reading (mendingOf w))) s t ≡ done tt u t′ → execute row (answered reading (mendingOf w)) s t ≡ done tt u t′
     by true p = absurd (let o : _≡_ {A = ℕ} 0 1 = cc in omega arith)
     by false p = p
 
-pub followed-on : {row : List ℕ} {self : Action} {s b : State} (m : From row self s b) {w k : ℕ} {r : Run} (q : Asked row b w k r) (z : k ≡ 0 → ⊥) (reading : Bool) (t : List ℕ) {u : State} {t′ : List ℕ}
-    → followed row reading w (onRun b r) t ≡ done tt u t′ → On row b u
-followed-on {row} {b = b} m {w} {k} {r} q z reading t {u} h =
-    let d = done-of row (answered reading (mendingOf w)) t (from-answer m q z (answered reading (mendingOf w)) .0) (followed-done row reading w (onRun b r) t h) in
+pub followed-on : {row : List ℕ} {self : Action} {s b : State} (m : From row self s b) {w k : ℕ} {r : Run} (q : Asked row b w k r) (z : k ≡ 0 → ⊥) (event : code.Event) (reading : Bool) (t : List ℕ) {u : State} {t′ : List ℕ}
+    → followed row event reading w (onRun b r) t ≡ done tt u t′ → On row b u
+followed-on {row} {b = b} m {w} {k} {r} q z event reading t {u} h =
+    let d = done-of row (answered reading (mendingOf w)) t (from-answer m q z (answered reading (mendingOf w)) .0) (followed-done row event reading w (onRun b r) t h) in
     on-answer m q z (d .valid) (d .took) (d .claim)
 
 -- ---- while a test holds

@@ -102,7 +102,7 @@ module _ (row : List ℕ) (file : File) (end : Position) (t l p : List ℕ) {r :
 
     module _ (g : Outcome) (t₁ l₁ p₁ : List ℕ) (c : outcome g t₁ l₁ p₁ ≡ execute row (setTo x) (state (o .run) l p) t) where
       pub set-ends : going (g .status) ≡ false → {reply : Reply} → reply ≡ endedReply g → after reply [] t₁ l₁ p₁ ≡ call (asking (sets x) row) file (book t l p end)
-      set-ends n q = ap (λ (y : Reply). after y [] t₁ l₁ p₁) q ∙ reply-ends [] g t₁ l₁ p₁ (bind-ends (execute row (setTo x)) _ (state (o .run) l p) t (halted g c n)) ∙ set-is
+      set-ends n q = ap (λ (y : Reply). after y [] t₁ l₁ p₁) q ∙ reply-ends [] g t₁ l₁ p₁ n (bind-ends (execute row (setTo x)) _ (state (o .run) l p) t (halted g c n)) ∙ set-is
 
       pub set-went : going (g .status) ≡ true → {y : Run} → y ≡ moodAgain (g .run) file → {d : Outcome} → d ≡ doneBy y → {reply : Reply} → reply ≡ endedReply d → after reply [] t₁ l₁ p₁ ≡ call (asking (sets x) row) file (book t l p end)
       set-went n {y = y} m {d = d} k q = ap (λ (z : Reply). after z [] t₁ l₁ p₁) (q ∙ ap endedReply (k ∙ ap doneBy m))

@@ -1,4 +1,5 @@
 // Above the event cycle: good line, put of a character, space and set char number.
+use rules::Event;
 use rules::Outcome;
 use rules::Run;
 ghost use mathlib.Core.Path.{_≡_};
@@ -34,12 +35,21 @@ pub fn character_event(
     let next = running::signalled(run, row);
     if running::kind_of(word) == 0 {
         return Taken {
-            outcome: running::refused(next, 8),
+            outcome: running::refused_at(next, Event::Character, 8),
             byte: b,
         };
     }
     let byte = running::suggestion(word, b);
-    let after = events::follow(next, word, reading, text, lines, pages, row);
+    let after = events::follow(
+        next,
+        word,
+        reading,
+        text,
+        lines,
+        pages,
+        row,
+        Event::Character,
+    );
     Taken {
         outcome: after,
         byte: byte,
@@ -72,7 +82,8 @@ pub fn newline(
     running::finish(closed)
 }
 
-// Follows an answer that is not false: most often, reading, it is a newline to another line than the logical end's, and signals nothing.
+// Follows an event's answer that is not false: most often, reading, it is a newline to another line than the logical end's, and signals
+// nothing.
 pub fn follow(
     run: Run,
     word: u32,
@@ -81,21 +92,22 @@ pub fn follow(
     lines: &mut [u8],
     pages: &mut [u8],
     row: &[u32],
+    event: Event,
 ) -> Outcome
     requires { ⌜ Ready (now row) (Action.answered reading (mendingOf word)) (state run (now lines) (now pages)) ⌝ }
-    ensures { λ r. ⌜ outcome r (now (text .exit)) (now (lines .exit)) (now (pages .exit)) ≡ followed (now (row .entry)) reading word (state run (now (lines .entry)) (now (pages .entry))) (now (text .entry)) ⌝ }
+    ensures { λ r. ⌜ outcome r (now (text .exit)) (now (lines .exit)) (now (pages .exit)) ≡ followed (now (row .entry)) event reading word (state run (now (lines .entry)) (now (pages .entry))) (now (text .entry)) ⌝ }
 {
     if running::kind_of(word) != 2 {
-        return events::follow(run, word, reading, text, lines, pages, row);
+        return events::follow(run, word, reading, text, lines, pages, row, event);
     }
     if !run.file.reading {
-        return events::follow(run, word, reading, text, lines, pages, row);
+        return events::follow(run, word, reading, text, lines, pages, row, event);
     }
     if !places::page_good(run, true, pages) {
-        return events::follow(run, word, reading, text, lines, pages, row);
+        return events::follow(run, word, reading, text, lines, pages, row, event);
     }
     if places::on_end_line(run) {
-        return events::follow(run, word, reading, text, lines, pages, row);
+        return events::follow(run, word, reading, text, lines, pages, row, event);
     }
     let on = running::moved(run, run.file.position.page, run.file.position.line + 1, 1);
     let again = running::in_mood(on, reading);
@@ -123,7 +135,7 @@ pub fn line_end(
         }
         return newline(next, reading, text, lines, pages, row);
     }
-    follow(next, word, reading, text, lines, pages, row)
+    follow(next, word, reading, text, lines, pages, row, Event::LineEnd)
 }
 
 // "Good page: good file, then signal page end while l exceeds the page length." Most often the page is good at once.

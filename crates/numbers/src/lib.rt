@@ -1,5 +1,6 @@
 // The calls of the core once more, each with what it hands back in plain numbers, for a caller that can be handed no enum and no
 // slice: the C interface. Each answers what the core answers.
+use rules::Event;
 use rules::File;
 use rules::Given;
 use rules::Position;
@@ -7,21 +8,25 @@ use rules::Reply;
 ghost use mathlib.Core.Path.{_≡_};
 ghost use mathlib.Core.List.{[]};
 ghost use Rattle.rules.specs.Calls.{book, call, plain, asking, establishes, opens, closes, resets, backspaces, viewNumbers, putsCharacter, putsString, putsInteger, getsCharacter, getsString, getsInteger, spaces, newlines, newpages, sets, setsCharacterNumber};
+ghost use Rattle.rules.specs.Step.{eventNumber};
 ghost use Rattle.numbers.specs.Numbers.{afterNumbers, resultOf, InNumbers};
 
 // What a call hands back beside the record, document 01's "result": its number and stop; what it gives, 0 for nothing, 1 for a
-// character, 2 for an integer, and its value, 0 for nothing; the events signalled, the answers taken, the count of characters
-// delivered, and the logical end.
+// character, 2 for an integer, and its value, 0 for nothing; the event that a refusal ended in, 0 for none; the events signalled, the
+// answers taken, the count of characters delivered, and the logical end; and where that event was signalled. With no event this is
+// only where the record is left, and tells nothing more.
 #[repr(C)]
 pub struct CallResult {
     pub number: u8,
     pub stop: u8,
     pub given: u8,
+    pub event: u8,
     pub value: i32,
     pub events: usize,
     pub taken: usize,
     pub count: usize,
     pub end: Position,
+    pub signalled: Position,
 }
 
 // The record that a call leaves, and its result.
@@ -31,23 +36,41 @@ pub struct Left {
     pub result: CallResult,
 }
 
-// A reply in numbers, with its number and stop, and what it gives.
-pub fn result_of(reply: Reply, number: u8, stop: u8, given: u8, value: i32) -> Left
-    ensures { λ r. ⌜ r ≡ resultOf reply number stop given value ⌝ }
+// The number of an event, 0 for none.
+pub fn event_number(event: Event) -> u8
+    ensures { λ r. ⌜ r ≡ eventNumber event ⌝ }
+{
+    match event {
+        Event::None => 0,
+        Event::LogicalEnd => 1,
+        Event::PhysicalEnd => 2,
+        Event::PageEnd => 3,
+        Event::LineEnd => 4,
+        Event::Character => 5,
+        Event::Value => 6,
+    }
+}
+
+// A reply in numbers, with its number, stop and event, and what it gives.
+pub fn result_of(reply: Reply, number: u8, stop: u8, event: u8, given: u8, value: i32) -> Left
+    ensures { λ r. ⌜ r ≡ resultOf reply number stop event given value ⌝ }
 {
     let file = reply.file;
     let end = reply.end;
+    let at = file.position;
     Left {
         file: file,
         result: CallResult {
             number: number,
             stop: stop,
             given: given,
+            event: event,
             value: value,
             events: reply.events,
             taken: reply.taken,
             count: reply.count,
             end: end,
+            signalled: at,
         },
     }
 }
@@ -58,9 +81,13 @@ pub fn in_numbers(reply: Reply) -> Left
 {
     let given = reply.given;
     match given {
-        Given::Nothing(status) => result_of(reply, status.number, status.stop, 0, 0),
-        Given::Character(b) => result_of(reply, 0, 0, 1, b as i32),
-        Given::Integer(v) => result_of(reply, 0, 0, 2, v),
+        Given::Nothing(status) => {
+            let event = status.event;
+            let told = event_number(event);
+            result_of(reply, status.number, status.stop, told, 0, 0)
+        }
+        Given::Character(b) => result_of(reply, 0, 0, 0, 1, b as i32),
+        Given::Integer(v) => result_of(reply, 0, 0, 0, 2, v),
     }
 }
 
@@ -290,14 +317,17 @@ pub fn view_number(
 {
     let start = entry::start(file, end);
     let span = views::span_of(start, page, line, text, lines, pages);
+    let here = file.position;
     CallResult {
         number: span.number,
         stop: 0,
         given: 0,
+        event: 0,
         value: 0,
         events: 0,
         taken: 0,
         count: 0,
         end: end,
+        signalled: here,
     }
 }

@@ -19,7 +19,7 @@ use Rattle.rules.specs.Calls.{Value, nothing, begin, established, establishing,
 use Rattle.running.specs.Outcomes.{resetBy, backspacedBy}
 use Rattle.laws.proofs.Ways.{need-true, need-false, change-then, bind-done, bind-ends, test-true, test-false, with-value}
 use Rattle.entry.specs.Before.{beforeWork, refusedReply, endedReply}
-use Rattle.begins.proofs.Begins.{startOf, checked-on, reply-ends, reply-nothing}
+use Rattle.begins.proofs.Begins.{startOf, checked-on, reply-refused, reply-nothing}
 use Rattle.plain.specs.Done.{doneReply}
 
 -- every element set
@@ -47,7 +47,7 @@ module _ (file : File) (end : Position) (t l p : List ℕ) where
 
   module _ {r : Run} (er : r ≡ runWith file end 0 0) where
     pub refused-as : (f : Step Value) (number : ℕ) → Refuses f number → {reply : Reply} → reply ≡ refusedReply r number → after reply [] t l p ≡ leave [] (f start t)
-    refused-as f number h q = ap (λ (y : Reply). after y [] t l p) (q ∙ ap (λ (x : Run). refusedReply x number) er) ∙ reply-ends [] (refusedBy (runWith file end 0 0) number) t l p h
+    refused-as f number h q = ap (λ (y : Reply). after y [] t l p) (q ∙ ap (λ (x : Run). refusedReply x number) er) ∙ reply-refused [] (runWith file end 0 0) number t l p h
 
   pub done-as : (f : Step Value) (g : File) (x : Position) (l′ p′ : List ℕ) → f start t ≡ done nothing (startOf g x l′ p′) t → {reply : Reply} → reply ≡ doneReply g x → after reply [] t l′ p′ ≡ leave [] (f start t)
   done-as f g x l′ p′ h q = ap (λ (y : Reply). after y [] t l′ p′) q ∙ reply-nothing [] (doneBy (runWith g x 0 0)) t l′ p′ (sym h)

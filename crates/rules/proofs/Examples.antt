@@ -1,6 +1,6 @@
 -- Document 01's examples E1 to E11 and `shown`, and readings of rules that E1 to E11 do not reach: one table, proved by computation.
--- Each row says all that the last call hands back and leaves: number, events, answers taken, stop, count, value, output, record,
--- lengths, characters and logical end.
+-- Each row says all that the last call hands back and leaves: number, the event that a refusal ended in and its position, events, answers
+-- taken, stop, count, value, output, record, lengths, characters and logical end.
 use mathlib.Core.Path.{_≡_, refl}
 use Prim.Native.Nat.{ℕ, zero, suc, _+_, _*_, _-_}
 use Prim.Native.Char.{Char, code}
@@ -14,8 +14,8 @@ use Rattle.rules.specs.declared.Position.{Position}
 use Rattle.rules.specs.declared.Rights.{Rights}
 use Rattle.rules.specs.declared.Shape.{Shape}
 use Rattle.rules.specs.declared.File.{File}
-use Rattle.rules.specs.Book.{within, place, before, pageLength, lineIndex, lineLength, characterIndex, inBounds, nextWord, kindOf, placeOf, mendingOf, answerOf, suggested, wordFits, allWordsFit, rowFits, legal, sizesFit, allUpTo, lengthsFit, someRight, moodsFit, shapeFits, bookFits, allFits}
-use Rattle.rules.specs.Step.{Ending, refusal, stopped, finished, _>>=_, pure, halt, attempt, look, change, branch, test, fileEnded, signal, moodOn, backspace, reset, characterHere, size, store, blanks, blankLine, blankLines, cutLine, cutPage, fillLine, fillPage, endLine, endPage}
+use Rattle.rules.specs.Book.{Event, logicalEnd, physicalEnd, pageEnd, lineEnd, within, place, before, pageLength, lineIndex, lineLength, characterIndex, inBounds, nextWord, kindOf, placeOf, mendingOf, answerOf, suggested, wordFits, allWordsFit, rowFits, legal, sizesFit, allUpTo, lengthsFit, someRight, moodsFit, shapeFits, bookFits, allFits}
+use Rattle.rules.specs.Step.{Ending, refusal, refusalAt, stopped, finished, _>>=_, pure, halt, attempt, look, change, branch, test, fileEnded, signal, moodOn, backspace, reset, characterHere, size, store, blanks, blankLine, blankLines, cutLine, cutPage, fillLine, fillPage, endLine, endPage}
 use Rattle.rules.specs.Steps.{printable, digit, fitsHere, signals, signalWhile, goodFileBody, goodPageBody, atPageEndBody, goodLineBody, atLineEndBody, newlineBody, newpageBody, setToBody, performBody, answeredBody, characterEvent, putCharacterBody, roomForBody, passBlanksBody, moreDigitsBody, spaceStep, setCharacterNumberBody, body, spent, supply, bounded, execute}
 use Rattle.rules.specs.Steps as Steps
 use Rattle.rules.specs.Whole.{digitsUpTo, signed, padded, wholeText, lowest, Written, whole}
@@ -80,6 +80,10 @@ gives n e a v = record { ending = refusal n; events = e; taken = a; count = 0; v
 
 abbrev says : ℕ → ℕ → ℕ → Result
 says n e a = gives n e a nothing
+
+-- the same of a refusal that an event ended in, signalled at a position
+abbrev tells : ℕ → Event → Position → ℕ → ℕ → Result
+tells n event x e a = record { ending = refusalAt event x n; events = e; taken = a; count = 0; value = nothing; buffer = [] }
 
 -- what a get of a string into 20 places of "?" hands back: its ending, events, answers taken and text
 abbrev got : Ending → ℕ → ℕ → String → Result
@@ -170,10 +174,10 @@ Shown = (after incident ≡ leaves (says 0 0 0) (writing (place 1 3 5)) incident
 
 -- ---- readings of rules that E1 to E11 do not reach
 
--- good file comes before good line: a reader at the end of a full last line hears logical end, refusal 7, and no line end
+-- good file comes before good line: a reader at the end of a full last line hears logical end, refusal 14, and no line end
 abbrev FileFirst : Type 0
 FileFirst = lastly usual 1 1 3 (plain establishes ∷ put "abc" ∷ plain resets ∷ get20 [] ∷ asking getsCharacter [] ∷ [])
-    ≡ leaves (says 7 1 0) (record-of usual 1 1 3 true true false (place 1 1 4)) (book (stored 3 "abc") (3 ∷ []) (1 ∷ []) (place 1 1 4))
+    ≡ leaves (tells 14 logicalEnd (place 1 1 4) 1 0) (record-of usual 1 1 3 true true false (place 1 1 4)) (book (stored 3 "abc") (3 ∷ []) (1 ∷ []) (place 1 1 4))
 
 -- newline without compress fills the line with blanks, to its end and no further
 abbrev Filled : Type 0
@@ -195,21 +199,22 @@ abbrev CutPageBefore : Type 0
 CutPageBefore = lastly usual 2 3 4 (plain establishes ∷ put "abc" ∷ asking newlines [] ∷ asking newpages [] ∷ [])
     ≡ leaves (says 0 0 0) (record-of usual 2 3 4 true false true (place 2 1 1)) (book (stored 24 "abc") (3 ∷ 0 ∷ 4 ∷ 4 ∷ 4 ∷ 4 ∷ []) (1 ∷ 3 ∷ []) (place 2 1 1))
 
--- good file is tested again after each default: line end, page end, then physical end
+-- good file is tested again after each default: line end, page end, then physical end, refusal 15
 abbrev Afresh : Type 0
 Afresh = lastly usual 1 1 1 (plain establishes ∷ put "aa" ∷ [])
-    ≡ leaves (says 7 3 0) (record-of usual 1 1 1 true false true (place 2 1 1)) (book (stored 1 "a") (1 ∷ []) (1 ∷ []) (place 2 1 1))
+    ≡ leaves (tells 15 physicalEnd (place 2 1 1) 3 0) (record-of usual 1 1 1 true false true (place 2 1 1)) (book (stored 1 "a") (1 ∷ []) (1 ∷ []) (place 2 1 1))
 
 -- an event inside an answer takes the next answer of the row, and its refusal ends the outer call: page end is answered newline, whose
--- own page end is answered newpage; that newline starts again at the logical end, which is answered by nothing
+-- own page end is answered newpage; that newline starts again at the logical end, which is answered by nothing. "Nested answers report the
+-- innermost event."
 abbrev Nested : Type 0
 Nested = lastly usual 2 1 2 (plain establishes ∷ put "abcd" ∷ plain resets ∷ get20 [] ∷ asking newlines [] ∷ asking getsCharacter (0x20000000 ∷ 0x30000000 ∷ []) ∷ [])
-    ≡ leaves (says 7 3 2) (record-of usual 2 1 2 true true false (place 2 1 3)) (book (stored 4 "abcd") (2 ∷ 2 ∷ []) (1 ∷ 1 ∷ []) (place 2 1 3))
+    ≡ leaves (tells 14 logicalEnd (place 2 1 3) 3 2) (record-of usual 2 1 2 true true false (place 2 1 3)) (book (stored 4 "abcd") (2 ∷ 2 ∷ []) (1 ∷ 1 ∷ []) (place 2 1 3))
 
 -- kind 8: the call ends with 11, after the event is counted
 abbrev Jumped : Type 0
 Jumped = after (plain establishes ∷ put "ab" ∷ plain resets ∷ asking getsInteger (0x80000000 ∷ []) ∷ [])
-    ≡ leaves (says 11 1 1) (reading (place 1 1 2)) (holds "ab" (place 1 1 3))
+    ≡ leaves (tells 11 Event.character (place 1 1 2) 1 1) (reading (place 1 1 2)) (holds "ab" (place 1 1 3))
 
 -- an integer with its sign, blanks and a line end before it
 abbrev Read : Type 0
@@ -221,10 +226,10 @@ abbrev TooLarge : Type 0
 TooLarge = lastly usual 1 1 12 (plain establishes ∷ put "2147483648 " ∷ plain resets ∷ asking getsInteger (0x10000000 ∷ []) ∷ [])
     ≡ leaves (says 0 1 1) (record-of usual 1 1 12 true true false (place 1 1 11)) (book (stored 12 "2147483648 ") (12 ∷ []) (1 ∷ []) (place 1 1 12))
 
--- set beyond the logical end goes to that end; refusal 7
+-- set beyond the logical end goes to that end; refusal 14
 abbrev SetBeyond : Type 0
 SetBeyond = lastly random 2 3 8 (plain establishes ∷ put "abc" ∷ asking (sets (place 1 1 2)) [] ∷ asking (sets (place 9 0 0)) [] ∷ [])
-    ≡ leaves (says 7 1 0) (record-of random 2 3 8 true false true (place 1 1 4)) (holds "abc" (place 1 1 4))
+    ≡ leaves (tells 14 logicalEnd (place 1 1 4) 1 0) (record-of random 2 3 8 true false true (place 1 1 4)) (holds "abc" (place 1 1 4))
 
 -- a view stops at the logical end, and the next line is not shown: refusal 6
 abbrev ViewToEnd : Type 0
@@ -240,10 +245,46 @@ Refused = (after (asking newlines (0x90000000 ∷ []) ∷ []) .result ≡ says 1
     × (after (plain establishes ∷ plain resets ∷ asking newlines [] ∷ []) .result ≡ says 5 0 0)
     × (lastly usual 2 3 256 (plain establishes ∷ []) .result ≡ says 3 0 0)
 
+-- ---- the event that a refusal ended in, and where it was signalled (document 02, C-12): logical end and physical end stand above, in
+-- FileFirst and Afresh, and a nested one in Nested
+
+-- a page that is full, and the position after its last line
+abbrev full : List Call
+full = plain establishes ∷ put "ab" ∷ asking newlines [] ∷ []
+
+abbrev fullPage : Result → After
+fullPage r = leaves r (record-of usual 2 1 2 true false true (place 1 2 1)) (book (stored 4 "ab") (2 ∷ 2 ∷ []) (1 ∷ 1 ∷ []) (place 1 2 1))
+
+-- page end answered 8
+abbrev AtPageEnd : Type 0
+AtPageEnd = lastly usual 2 1 2 (full ++ (asking (putsString (bytes "c")) (0x80000000 ∷ []) ∷ [])) ≡ fullPage (tells 11 pageEnd (place 1 2 1) 1 1)
+
+-- line end answered 8
+abbrev AtLineEnd : Type 0
+AtLineEnd = after (plain establishes ∷ asking (putsString (bytes "abcdefghij")) (0x80000000 ∷ []) ∷ [])
+    ≡ leaves (tells 11 lineEnd (place 1 1 9) 1 1) (writing (place 1 1 9)) (holds "abcdefgh" (place 1 1 9))
+
+-- a character that cannot be put; one that is no digit, passed and answered with a suggestion that is none either
+abbrev AtCharacter : Type 0
+AtCharacter = (after (plain establishes ∷ asking (putsCharacter 10) [] ∷ []) ≡ leaves (tells 8 Event.character (place 1 1 1) 1 0) (writing (place 1 1 1)) (holds "" (place 1 1 1)))
+    × (after (plain establishes ∷ put "ab" ∷ plain resets ∷ asking getsInteger (0x70000078 ∷ []) ∷ [])
+    ≡ leaves (tells 8 Event.character (place 1 1 2) 1 1) (reading (place 1 1 2)) (holds "ab" (place 1 1 3)))
+
+-- an integer too large: value is signalled after the last character of its text
+abbrev AtValue : Type 0
+AtValue = lastly usual 1 1 12 (plain establishes ∷ put "2147483648 " ∷ plain resets ∷ asking getsInteger [] ∷ [])
+    ≡ leaves (tells 9 Event.value (place 1 1 11) 1 0) (record-of usual 1 1 12 true true false (place 1 1 11)) (book (stored 12 "2147483648 ") (12 ∷ []) (1 ∷ []) (place 1 1 12))
+
+-- a refusal inside an answer that no event ended in tells none: page end answered backspace, at c = 1
+abbrev InAnswer : Type 0
+InAnswer = lastly usual 2 1 2 (full ++ (asking (putsString (bytes "c")) (0x50000000 ∷ []) ∷ [])) ≡ fullPage (says 6 1 1)
+
 pub table : (E1 × E2 × E3 × E4 × E5 × E6 × E7 × E8 × E9 × E10 × E11 × Shown)
     × (FileFirst × Filled × FilledPage × CutPage × CutPageBefore × Afresh × Nested × Jumped × Read × TooLarge × SetBeyond × ViewToEnd × Refused)
+    × (AtPageEnd × AtLineEnd × AtCharacter × AtValue × InAnswer)
 unfolding within before pageLength lineIndex lineLength characterIndex inBounds nextWord kindOf placeOf mendingOf answerOf suggested wordFits allWordsFit rowFits legal sizesFit allUpTo lengthsFit someRight moodsFit shapeFits bookFits allFits _>>=_ pure halt attempt look change branch test fileEnded signal moodOn backspace reset characterHere size store blanks blankLine blankLines cutLine cutPage fillLine fillPage endLine endPage printable digit fitsHere Steps.backspaces signals signalWhile goodFileBody goodPageBody atPageEndBody goodLineBody atLineEndBody newlineBody newpageBody setToBody performBody answeredBody characterEvent putCharacterBody roomForBody passBlanksBody moreDigitsBody spaceStep setCharacterNumberBody body spent supply bounded execute digitsUpTo signed padded wholeText lowest whole begin turnable established establishing opening closing resetting backspacing shown shownLength shownPart orMarker viewing viewNumber putCharacters puttingString putText puttingInteger takeCharacter gettingCharacter oneOf stringCharacter getCharacters gettingString firstDigit withSign integerGiven signBefore takeInteger gettingInteger spacing newlining newpaging settingCharacterNumber setting plainWork askingWork work bufferOf leave call run
 table = (
   (refl, refl, refl, refl, refl, refl, refl, refl, (refl, refl, refl, refl), (refl, refl), (refl, refl), (refl, refl, refl, refl)),
   (refl, refl, refl, refl, refl, refl, refl, refl, refl, refl, refl, (refl, refl), (refl, refl, refl, refl, refl, refl)),
+  (refl, refl, (refl, refl), refl, refl),
 )

@@ -13,7 +13,7 @@ use Rattle.rules.specs.declared.Given.{Given}
 use Rattle.rules.specs.declared.Given.the-variants.{Nothing, Character, Integer}
 use Rattle.rules.specs.declared.Reply.{Reply}
 use Rattle.rules.specs.Book.{choose, place, before, within, pageLength, lineLength, characterIndex, State, state, onRun, withLengths, here, endOf, shapeOf, rightsOf, fileWith, fileOpened, runWith, withFile, rewound, rowFits, shapeFits, bookFits, allFits, Event}
-use Rattle.rules.specs.Step.{Ending, endingAs, Out, done, ends, Step, _>>=_, _>>_, pure, halt, refuse, refuseAt, stopped, finished, attempt, look, change, changeRun, branch, test, need, again, pass, moodOn, backspace, reset, characterHere, size}
+use Rattle.rules.specs.Step.{Ending, refusalAt, endingAs, Out, done, ends, Step, _>>=_, _>>_, pure, halt, refuse, refuseAt, stopped, finished, attempt, look, change, changeRun, branch, test, need, again, pass, moodOn, backspace, reset, characterHere, size}
 use Rattle.rules.specs.Steps.{Action, Gives, goodLine, newline, newpage, setTo, putCharacter, roomFor, passBlanks, moreDigits, setCharacterNumber, printable, digit, signals, characterEvent, spaceStep, execute}
 use Rattle.rules.specs.Whole.{wholeText, lowest}
 
@@ -215,14 +215,15 @@ module _ (row : List ℕ) where
     getCharacters terminators room []
 
   -- "then a digit. Anything else there is passed and signals character, suggesting "0" (default, or a suggestion that is no digit:
-  -- refusal 8)"
+  -- refusal 8)", which gives the event that the suggestion answered
   unfoldable pub firstDigit : Step ℕ
   firstDigit = do
     b ← characterHere
     pass
     branch (digit b) (pure b) (do
+      x ← look here
       c ← characterEvent row (execute row) true 48
-      branch (digit c) (pure c) (refuseAt Event.character 8))
+      branch (digit c) (pure c) (halt (refusalAt Event.character x 8)))
 
   -- "Above 2147483647 signals value: 0 is refusal 9, else done with no value given."
   unfoldable pub integerGiven : Bool → ℕ → Step Value
@@ -365,7 +366,8 @@ abbrev pub book : List ℕ → List ℕ → List ℕ → Position → Book
 book t l p x = record { text = t; lines = l; pages = p; end = x }
 
 -- "A call's result is all it hands back: number, events signalled, answers taken, stop, count, the character or integer if one is
--- given, a view's characters." Number and stop are the ending; the buffer is the lent output as the call leaves it.
+-- given, a view's characters." Number, stop, and the event and position that a refusal tells are the ending; the buffer is the lent
+-- output as the call leaves it.
 pub record Result : Type 0 where
   pub ending : Ending
   pub events : ℕ
@@ -418,11 +420,11 @@ run (k ∷ ks) f b =
 
 -- ---- the code's reply, as what a call hands back and leaves
 
--- number, stop and value of each case of what is given
-abbrev pub endingOf : Given → Ending
-endingOf (Nothing e) = endingAs e
-endingOf (Character b) = finished
-endingOf (Integer v) = finished
+-- ending and value of each case of what is given, with the record left at x
+abbrev pub endingOf : Given → Position → Ending
+endingOf (Nothing e) x = endingAs e x
+endingOf (Character b) x = finished
+endingOf (Integer v) x = finished
 
 abbrev pub valueOf : Given → Value
 valueOf (Nothing e) = nothing
@@ -432,7 +434,7 @@ valueOf (Integer v) = anInteger v
 -- with the lent output and the book's lists at exit
 abbrev pub after : Reply → List ℕ → List ℕ → List ℕ → List ℕ → After
 after r buffer t l p = record {
-  result = record { ending = endingOf (r .given); events = r .events; taken = r .taken; count = r .count; value = valueOf (r .given); buffer = buffer };
+  result = record { ending = endingOf (r .given) (r .file .position); events = r .events; taken = r .taken; count = r .count; value = valueOf (r .given); buffer = buffer };
   file = r .file;
   book = book t l p (r .end);
 }

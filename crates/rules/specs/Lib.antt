@@ -5,3 +5,4 @@ pub mod Whole
 pub mod Calls
 pub mod Alike
 pub mod Ready
+pub mod Told

@@ -8,23 +8,36 @@ use lib.Dec.{leb, ltb, eqb}
 use Rattle.rules.specs.declared.Position.{Position}
 use Rattle.rules.specs.declared.Shape.{Shape}
 use Rattle.rules.specs.declared.Run.{Run}
+use Rattle.rules.specs.declared.Event as code
+use Rattle.rules.specs.declared.Event.the-variants.{None, LogicalEnd, PhysicalEnd, PageEnd, LineEnd, Character, Value}
 use Rattle.rules.specs.declared.Status.{Status}
 use Rattle.rules.specs.declared.Outcome.{Outcome}
-use Rattle.rules.specs.Book.{choose, place, before, nextCharacter, previousCharacter, nextLine, nextPage, Lengths, pageLength, lineIndex, lineLength, characterIndex, State, state, onRun, withLengths, here, endOf, shapeOf, rightsOf, pageHere, lineHere, withFile, withEnd, movedTo, bothMovedTo, inMood, rewound, Event, nextWord, signalledBy, Answer, answerOf}
+use Rattle.rules.specs.Book.{choose, place, before, nextCharacter, previousCharacter, nextLine, nextPage, Lengths, pageLength, lineIndex, lineLength, characterIndex, State, state, onRun, withLengths, here, endOf, shapeOf, rightsOf, pageHere, lineHere, withFile, withEnd, movedTo, bothMovedTo, inMood, rewound, Event, logicalEnd, physicalEnd, pageEnd, lineEnd, character, value, nextWord, signalledBy, Answer, answerOf}
 
 infixl 20 _>>=_
 infixl 20 _>>_
 -- ---- how a step ends the call: with the number of a refusal, or with the stop of a string
 
+-- "A refusal that an event ends in (8, 9, 11, 14 or 15) gives that event and the position at which it was signalled; any other result
+-- gives none." (document 02, C-12)
+pub data Told : Type 0 where
+  none : Told
+  signalled : Event → Position → Told
+
 pub record Ending : Type 0 where
   pub number : ℕ
   pub stop : ℕ
+  pub told : Told
 
 abbrev pub refusal : ℕ → Ending
-refusal n = record { number = n; stop = 0 }
+refusal n = record { number = n; stop = 0; told = none }
+
+-- of a refusal that an event ends in, signalled at x
+abbrev pub refusalAt : Event → Position → ℕ → Ending
+refusalAt event x n = record { number = n; stop = 0; told = signalled event x }
 
 abbrev pub stopped : ℕ → Ending
-stopped n = record { number = 0; stop = n }
+stopped n = record { number = 0; stop = n; told = none }
 
 -- number 0, "done"
 abbrev pub finished : Ending
@@ -60,9 +73,9 @@ halt e = λ s t. ends e s t
 abbrev pub refuse : {A : Type 0} → ℕ → Step A
 refuse n = halt (refusal n)
 
--- a refusal that an event ends in, by its default or by answer 8
+-- a refusal that an event ends in, by its default or by answer 8: nothing moved since the signal, so the position is where it was
 abbrev pub refuseAt : {A : Type 0} → Event → ℕ → Step A
-refuseAt event n = refuse n
+refuseAt event n = λ s. halt (refusalAt event (here s) n) s
 
 -- a step whose ending is caught
 abbrev pub caught : {A B : Type 0} → (Ending → Step B) → (A → Step B) → Out A → Out B
@@ -225,12 +238,41 @@ endPage = do
 abbrev pub going : Status → Bool
 going e = choose (eqb (e .number) 0) (eqb (e .stop) 0) false
 
--- what a status means
-abbrev pub endingAs : Status → Ending
-endingAs e = record { number = e .number; stop = e .stop }
+-- what an event of the code tells, with the record left at x
+abbrev pub toldBy : code.Event → Position → Told
+toldBy None x = none
+toldBy LogicalEnd x = signalled logicalEnd x
+toldBy PhysicalEnd x = signalled physicalEnd x
+toldBy PageEnd x = signalled pageEnd x
+toldBy LineEnd x = signalled lineEnd x
+toldBy Character x = signalled character x
+toldBy Value x = signalled value x
+
+-- the number of each
+abbrev pub eventNumber : code.Event → ℕ
+eventNumber None = 0
+eventNumber LogicalEnd = 1
+eventNumber PhysicalEnd = 2
+eventNumber PageEnd = 3
+eventNumber LineEnd = 4
+eventNumber Character = 5
+eventNumber Value = 6
+
+-- each event as the code has it
+abbrev pub eventAs : Event → code.Event
+eventAs logicalEnd = LogicalEnd
+eventAs physicalEnd = PhysicalEnd
+eventAs pageEnd = PageEnd
+eventAs lineEnd = LineEnd
+eventAs character = Character
+eventAs value = Value
+
+-- what a status means, with the record left at x
+abbrev pub endingAs : Status → Position → Ending
+endingAs e x = record { number = e .number; stop = e .stop; told = toldBy (e .event) x }
 
 abbrev pub endingBy : Outcome → Ending
-endingBy o = endingAs (o .status)
+endingBy o = endingAs (o .status) (o .run .file .position)
 
 -- of a step that gives a value
 abbrev pub outcomeGiving : {A : Type 0} → A → Outcome → List ℕ → List ℕ → List ℕ → Out A
@@ -239,17 +281,25 @@ outcomeGiving a o t l p = choose (going (o .status)) (done a (state (o .run) l p
 abbrev pub outcome : Outcome → List ℕ → List ℕ → List ℕ → Out Unit
 outcome o t l p = outcomeGiving tt o t l p
 
-abbrev pub statusOf : ℕ → ℕ → Status
-statusOf number stop = record { number = number; stop = stop }
+abbrev pub statusOf : ℕ → ℕ → code.Event → Status
+statusOf number stop event = record { number = number; stop = stop; event = event }
 
 abbrev pub outcomeWith : Run → Status → Outcome
 outcomeWith r e = record { run = r; status = e }
 
 abbrev pub doneBy : Run → Outcome
-doneBy r = outcomeWith r (statusOf 0 0)
+doneBy r = outcomeWith r (statusOf 0 0 None)
 
 abbrev pub refusedBy : Run → ℕ → Outcome
-refusedBy r n = outcomeWith r (statusOf n 0)
+refusedBy r n = outcomeWith r (statusOf n 0 None)
+
+-- right after an event
+abbrev pub refusedAt : Run → code.Event → ℕ → Outcome
+refusedAt r event n = outcomeWith r (statusOf n 0 event)
 
 abbrev pub stoppedBy : Run → ℕ → Outcome
-stoppedBy r n = outcomeWith r (statusOf 0 n)
+stoppedBy r n = outcomeWith r (statusOf 0 n None)
+
+-- the status that a call hands back for the outcome of its last step: of a step that is done nothing more is told
+abbrev pub statusBy : Outcome → Status
+statusBy o = choose (going (o .status)) (statusOf 0 0 None) (o .status)

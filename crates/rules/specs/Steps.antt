@@ -70,6 +70,10 @@ isStop e = not (eqb (e .stop) 0)
 abbrev pub fileEnd : Bool → Event
 fileEnd reading = choose reading logicalEnd physicalEnd
 
+-- its default: "7 is retired; 14 is logical end, 15 physical end, in 7's place." (document 02, C-12)
+abbrev pub fileEndNumber : Bool → ℕ
+fileEndNumber reading = choose reading 14 15
+
 -- an event's answer: 0, the default follows; 8, "the program jumped away: the call ends"; any other, what a true answer does
 abbrev pub upon : {A : Type 0} → Event → Answer → (Mending → Step A) → Step A → Step A
 upon event isFalse follow default = default
@@ -92,10 +96,10 @@ module _ (row : List ℕ) (go : (action : Action) → Step (Gives action)) where
     upon event a (λ m. go (answered reading m)) default
 
   -- "Good file: reading, signal logical end while the position is at it; writing, signal physical end while p > P. Default: refusal
-  -- 7." In a string "a logical end answered 0 is stop 3".
+  -- 7", which is 14 or 15 since document 02. In a string "a logical end answered 0 is stop 3".
   unfoldable pub goodFileBody : Bool → Bool → Step Unit
   goodFileBody reading string = signalWhile (λ s. fileEnded reading (s .run))
-      (signals (fileEnd reading) reading (branch string (halt (stopped 3)) (refuseAt (fileEnd reading) 7)))
+      (signals (fileEnd reading) reading (branch string (halt (stopped 3)) (refuseAt (fileEnd reading) (fileEndNumber reading))))
       (go (goodFile reading string))
 
   -- "Good page: good file, then signal page end while l exceeds the page length. Default: newpage."
@@ -141,7 +145,8 @@ module _ (row : List ℕ) (go : (action : Action) → Step (Gives action)) where
         (changeRun (λ r. movedTo r (nextPage (r .file .position))))
 
   -- "Set: beyond the logical end, go to that end and signal logical end (0: refusal 7; else done); out of bounds, refusal 6; else go."
-  -- Refusal 4 where the right is missing, also in an answer. Set needs no mood, so it sets none again: that is the outer call's.
+  -- Refusal 7 is 14 since document 02. Refusal 4 where the right is missing, also in an answer. Set needs no mood, so it sets none again:
+  -- that is the outer call's.
   unfoldable pub setToBody : Position → Step Unit
   setToBody x = do
     need 4 (λ s. rightsOf s .«set»)
@@ -149,7 +154,7 @@ module _ (row : List ℕ) (go : (action : Action) → Step (Gives action)) where
         (do
           goToEnd
           a ← signal logicalEnd row
-          upon logicalEnd a (λ m. go (perform m)) (refuseAt logicalEnd 7))
+          upon logicalEnd a (λ m. go (perform m)) (refuseAt logicalEnd 14))
         (do
           need 6 (λ s. inBounds (shapeOf s) (s .lengths) x)
           goTo x)

@@ -47,11 +47,23 @@ pub struct Run {
     pub taken: usize,
 }
 
+// The six events, and none of them. `eventNumber` and `toldBy` of specs/ tell the number and the name of each case.
+pub enum Event {
+    None,
+    LogicalEnd,
+    PhysicalEnd,
+    PageEnd,
+    LineEnd,
+    Character,
+    Value,
+}
+
 // How a step ended. Number 0 and stop 0: it is done, and the call goes on. Otherwise the number of a refusal, or the
-// stop of a string.
+// stop of a string; and the event that a refusal ended in, which was signalled at the position where the record is left.
 pub struct Status {
     pub number: u8,
     pub stop: u8,
+    pub event: Event,
 }
 
 // The running call after a step, and how the step ended.

@@ -1,4 +1,5 @@
 // Changes of the running call, the endings of a step, and the words of an answer row. Nothing here signals an event.
+use rules::Event;
 use rules::Outcome;
 use rules::Position;
 use rules::Run;
@@ -6,7 +7,8 @@ use rules::Status;
 ghost use mathlib.Core.Path.{_≡_};
 ghost use Prim.Native.Nat.{_<_, _^_};
 ghost use Rattle.rules.specs.Book.{place, movedTo, bothMovedTo, inMood, nextWord, signalledBy, kindOf, pageOf, lineOf, characterOf, placeOf, mendingOf, suggested};
-ghost use Rattle.rules.specs.Step.{going, doneBy, refusedBy, stoppedBy};
+ghost use Rattle.rules.specs.Step.{going, eventAs, doneBy, refusedBy, refusedAt, stoppedBy, statusBy};
+ghost use Rattle.rules.specs.Steps.{fileEnd, fileEndNumber};
 ghost use Rattle.running.specs.Outcomes.{backspacedBy, resetBy};
 
 // The running call with its position moved.
@@ -51,7 +53,11 @@ pub fn finish(run: Run) -> Outcome
 {
     Outcome {
         run: run,
-        status: Status { number: 0, stop: 0 },
+        status: Status {
+            number: 0,
+            stop: 0,
+            event: Event::None,
+        },
     }
 }
 
@@ -64,6 +70,21 @@ pub fn refused(run: Run, number: u8) -> Outcome
         status: Status {
             number: number,
             stop: 0,
+            event: Event::None,
+        },
+    }
+}
+
+// The same right after an event, which the refusal ends in.
+pub fn refused_at(run: Run, event: Event, number: u8) -> Outcome
+    ensures { λ r. ⌜ r ≡ refusedAt run event number ⌝ }
+{
+    Outcome {
+        run: run,
+        status: Status {
+            number: number,
+            stop: 0,
+            event: event,
         },
     }
 }
@@ -77,8 +98,27 @@ pub fn stopped(run: Run, stop: u8) -> Outcome
         status: Status {
             number: 0,
             stop: stop,
+            event: Event::None,
         },
     }
+}
+
+// The event that good file signals.
+pub fn file_end(reading: bool) -> Event
+    ensures { λ r. ⌜ r ≡ eventAs (fileEnd reading) ⌝ }
+{
+    if reading {
+        Event::LogicalEnd
+    } else {
+        Event::PhysicalEnd
+    }
+}
+
+// The number of its refusal: 14 at the logical end, 15 at the physical end.
+pub fn file_end_number(reading: bool) -> u8
+    ensures { λ r. ⌜ r ≡ fileEndNumber reading ⌝ }
+{
+    if reading { 14 } else { 15 }
 }
 
 // Whether a step is done, and has not ended the call.
@@ -90,6 +130,21 @@ pub fn goes_on(o: Outcome) -> bool
     } else {
         false
     }
+}
+
+// The status that a call hands back for the outcome of its last step: of a step that is done nothing more is told.
+pub fn status_by(o: Outcome) -> Status
+    ensures { λ r. ⌜ r ≡ statusBy o ⌝ }
+{
+    if goes_on(o) {
+        return Status {
+            number: 0,
+            stop: 0,
+            event: Event::None,
+        };
+    }
+    let status = o.status;
+    status
 }
 
 // The next answer word, or 0 past the row's end.

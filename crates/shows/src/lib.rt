@@ -1,4 +1,5 @@
 // The line that a call writes.
+use rules::Event;
 use rules::File;
 use rules::Given;
 use rules::Position;
@@ -20,6 +21,18 @@ pub fn stop_of(given: Given) -> u8 {
         Given::Nothing(e) => e.stop,
         Given::Character(b) => 0,
         Given::Integer(v) => 0,
+    }
+}
+
+// The event that a refusal ended in.
+pub fn event_of(given: Given) -> Event {
+    match given {
+        Given::Nothing(e) => {
+            let event = e.event;
+            event
+        }
+        Given::Character(b) => Event::None,
+        Given::Integer(v) => Event::None,
     }
 }
 
@@ -46,7 +59,27 @@ pub fn push_position(out: &mut [u8], n: usize, at: Position) -> usize {
     console::push_field(out, line, at.character)
 }
 
-// The record's flags and position, and the logical end, each after a bar; and the line's end.
+// The name of an event, and the position at which it was signalled.
+pub fn push_signalled(out: &mut [u8], n: usize, name: &[u8], at: Position) -> usize {
+    let named = console::push_all(out, n, name);
+    push_position(out, named, at)
+}
+
+// After a bar the event that a refusal ended in, which was signalled where the record is left; "-" for none.
+pub fn push_event(out: &mut [u8], n: usize, event: Event, at: Position) -> usize {
+    let bar = console::push_all(out, n, b" | ");
+    match event {
+        Event::None => console::push(out, bar, 45),
+        Event::LogicalEnd => push_signalled(out, bar, b"logical", at),
+        Event::PhysicalEnd => push_signalled(out, bar, b"physical", at),
+        Event::PageEnd => push_signalled(out, bar, b"page", at),
+        Event::LineEnd => push_signalled(out, bar, b"line", at),
+        Event::Character => push_signalled(out, bar, b"character", at),
+        Event::Value => push_signalled(out, bar, b"value", at),
+    }
+}
+
+// The record's flags and position, and the logical end, each after a bar.
 pub fn push_record(out: &mut [u8], n: usize, file: File, end: Position) -> usize {
     let position = file.position;
     let bar = console::push_all(out, n, b" |");
@@ -55,8 +88,7 @@ pub fn push_record(out: &mut [u8], n: usize, file: File, end: Position) -> usize
     let writing = push_flag(out, reading, file.writing);
     let at = push_position(out, writing, position);
     let second = console::push_all(out, at, b" |");
-    let last = push_position(out, second, end);
-    console::push(out, last, 10)
+    push_position(out, second, end)
 }
 
 // A call's name, number, events, answers taken, stop and count.
@@ -75,11 +107,14 @@ pub fn push_reply(out: &mut [u8], name: &[u8], reply: Reply, bytes: &[u8]) -> us
     let given = reply.given;
     let file = reply.file;
     let end = reply.end;
+    let position = file.position;
     let counts = push_counts(out, name, reply);
     let value = push_value(out, counts, given);
     let blank = console::push(out, value, 32);
     let shown = console::push_hex(out, blank, bytes);
-    push_record(out, shown, file, end)
+    let record = push_record(out, shown, file, end);
+    let told = push_event(out, record, event_of(given), position);
+    console::push(out, told, 10)
 }
 
 // The line of a call that signals nothing and leaves the record: a view, or whole.
@@ -95,6 +130,7 @@ pub fn push_quiet(
     let status = Status {
         number: number,
         stop: 0,
+        event: Event::None,
     };
     let reply = Reply {
         file: file,

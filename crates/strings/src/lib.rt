@@ -1,5 +1,6 @@
 // Strings put and got: a run of ordinary characters at once, any other character by itself.
 use lines::Taken;
+use rules::Event;
 use rules::Outcome;
 use rules::Run;
 use rules::Status;
@@ -10,7 +11,7 @@ ghost use Prim.Native.Nat.{_+_, _-_, _≤_, _<_};
 ghost use lib.Dec.{T};
 ghost use lib.ListN.{length, take, drop};
 ghost use Rattle.rules.specs.Book.{state, rowFits};
-ghost use Rattle.rules.specs.Step.{done, endingAs, outcomeGiving, outcome};
+ghost use Rattle.rules.specs.Step.{done, endingBy, outcomeWith, outcomeGiving, outcome};
 ghost use Rattle.rules.specs.Steps.{Action, printable, execute};
 ghost use Rattle.rules.specs.Ready.{Ready, Valid};
 ghost use Rattle.rules.specs.Calls.{aString, putCharacters, takeCharacter, oneOf, stringCharacter, getCharacters};
@@ -241,7 +242,7 @@ pub fn get_string(
 ) -> Delivered
     requires { ⌜ Ready (now row) Action.passBlanks (state run (now lines) (now pages)) ⌝ }
     requires { ⌜ T (rowFits (now row)) ⌝ }
-    ensures { λ r. ⌜ (getCharacters (now (row .entry)) (now (terminators .entry)) (length (now (output .entry))) [] (state run (now (lines .entry)) (now (pages .entry))) (now (text .entry)) ≡ done (aString (take (r .count) (now (output .exit))) (endingAs (r .status))) (state (r .run) (now (lines .exit)) (now (pages .exit))) (now (text .exit))) × (r .count ≤ length (now (output .entry))) × (drop (r .count) (now (output .exit)) ≡ drop (r .count) (now (output .entry))) ⌝ }
+    ensures { λ r. ⌜ (getCharacters (now (row .entry)) (now (terminators .entry)) (length (now (output .entry))) [] (state run (now (lines .entry)) (now (pages .entry))) (now (text .entry)) ≡ done (aString (take (r .count) (now (output .exit))) (endingBy (outcomeWith (r .run) (r .status)))) (state (r .run) (now (lines .exit)) (now (pages .exit))) (now (text .exit))) × (r .count ≤ length (now (output .entry))) × (drop (r .count) (now (output .exit)) ≡ drop (r .count) (now (output .entry))) ⌝ }
 {
     let mut here = run;
     let mut i = 0;
@@ -269,7 +270,11 @@ pub fn get_string(
     }
     Delivered {
         run: here,
-        status: Status { number: 0, stop: 4 },
+        status: Status {
+            number: 0,
+            stop: 4,
+            event: Event::None,
+        },
         count: i,
     }
 }

@@ -7,9 +7,9 @@ use lib.Dec.{T, leb, ltb, eqb}
 use Rattle.rules.specs.declared.Position.{Position}
 use Rattle.rules.specs.declared.Rights.{Rights}
 use Rattle.rules.specs.Book.{before, within, inBounds, Lengths, State, here, endOf, shapeOf, rightsOf, lineHere, Event, logicalEnd, pageEnd, lineEnd, Mending, suggested}
-use Rattle.rules.specs.Step.{Step, pure, refusal, stopped, fileEnded, pageEnded, lineEnded, onEndPage, onEndLine, pass}
-use Rattle.rules.specs.Steps.{Action, Gives, goodFile, goodPage, goodLine, atPageEnd, atLineEnd, newline, newpage, setTo, perform, answered, putCharacter, roomFor, passBlanks, moreDigits, setCharacterNumber, printable, digit, fitsHere, backspaces, isStop, fileEnd, signals, signalWhile, goodFileBody, goodPageBody, atPageEndBody, goodLineBody, atLineEndBody, newlineBody, newpageBody, setToBody, performBody, answeredBody, characterEvent, putCharacterBody, roomForBody, passBlanksBody, moreDigitsBody, spaceStep, setCharacterNumberBody, body, measure, boundMet, bounded, execute}
-use Rattle.unseen.proofs.Sim.{Sim, Any, Free, Safe, sim-pure, sim-halt, sim-bind, sim-test, sim-branch, sim-upon, sim-look, sim-weak, sim-attempt, from, given}
+use Rattle.rules.specs.Step.{Ending, Step, pure, stopped, fileEnded, pageEnded, lineEnded, onEndPage, onEndLine, pass}
+use Rattle.rules.specs.Steps.{Action, Gives, goodFile, goodPage, goodLine, atPageEnd, atLineEnd, newline, newpage, setTo, perform, answered, putCharacter, roomFor, passBlanks, moreDigits, setCharacterNumber, printable, digit, fitsHere, backspaces, isStop, fileEnd, fileEndNumber, signals, signalWhile, goodFileBody, goodPageBody, atPageEndBody, goodLineBody, atLineEndBody, newlineBody, newpageBody, setToBody, performBody, answeredBody, characterEvent, putCharacterBody, roomForBody, passBlanksBody, moreDigitsBody, spaceStep, setCharacterNumberBody, body, measure, boundMet, bounded, execute}
+use Rattle.unseen.proofs.Sim.{Sim, Any, Free, Safe, sim-pure, sim-halt, sim-refuse, sim-bind, sim-test, sim-branch, sim-upon, sim-look, sim-weak, sim-attempt, from, given}
 use Rattle.unseen.proofs.Moves.{Right, AtEnd, FileOk, PageOk, LineOk, sim-again, sim-signal, sim-need, sim-moodOn, sim-goToEnd, sim-lineEnd, sim-pageEnd, sim-backspace, sim-reset, sim-pass, sim-nextLine, sim-nextPage, sim-goTo}
 use Rattle.unseen.proofs.Texts.{ok-before, sim-character, sim-store, sim-endLine, sim-endPage}
 
@@ -72,7 +72,7 @@ module _ {R : Rights} {L : Lengths} where
     sim-goodFile : (r w : Bool) → Right R r → Sim R L Any (goodFileBody row go r w) (λ _. FileOk r)
     unfolding goodFileBody
     sim-goodFile r w a = sim-while (λ s. fileEnded r (s .run))
-        (sim-signals (fileEnd r) r a (sim-branch w (λ _. sim-halt (stopped 3)) (λ _. sim-halt (refusal 7))))
+        (sim-signals (fileEnd r) r a (sim-branch w (λ _. sim-halt (stopped 3)) (λ _. sim-refuse (fileEnd r) (fileEndNumber r))))
         (h (goodFile r w) a)
         (sim-weak (λ s q. q .1) (λ a s q. q) (sim-pure (λ _. FileOk r) tt))
 
@@ -112,7 +112,7 @@ module _ {R : Rights} {L : Lengths} where
     unfolding setToBody
     sim-setTo x = sim-bind (sim-need 4 (λ s. rightsOf s .«set»)) λ _.
         sim-test (λ s. before (endOf s) x)
-        (sim-bind sim-goToEnd λ _. sim-bind (from (sim-signal logicalEnd row)) λ w. sim-upon logicalEnd w (sim-halt (refusal 7)) (λ m. h (perform m) tt))
+        (sim-bind sim-goToEnd λ _. sim-bind (from (sim-signal logicalEnd row)) λ w. sim-upon logicalEnd w (sim-refuse logicalEnd 14) (λ m. h (perform m) tt))
         (sim-bind (sim-need 6 (λ s. inBounds (shapeOf s) (s .lengths) x)) λ _. sim-goTo x)
 
     sim-perform : (m : Mending) → Safe R L (performBody row go m)
@@ -132,7 +132,7 @@ module _ {R : Rights} {L : Lengths} where
     pub sim-characterEvent : (r : Bool) (b : ℕ) → Right R r → Safe R L (characterEvent row go r b)
     unfolding characterEvent
     sim-characterEvent r b a = sim-bind (sim-signal Event.character row) λ w.
-        sim-upon Event.character w (sim-halt (refusal 8)) (λ m. sim-bind (h (answered r m) a) λ _. sim-pure Free (suggested m b))
+        sim-upon Event.character w (sim-refuse Event.character 8) (λ m. sim-bind (h (answered r m) a) λ _. sim-pure Free (suggested m b))
 
     sim-putCharacter : (b : ℕ) → Right R false → Safe R L (putCharacterBody row go b)
     unfolding putCharacterBody

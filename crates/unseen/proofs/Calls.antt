@@ -17,14 +17,14 @@ use Rattle.rules.specs.declared.Rights.{Rights}
 use Rattle.rules.specs.declared.File.{File}
 use Rattle.rules.specs.declared.Run.{Run}
 use Rattle.rules.specs.Book.{choose, place, before, within, inBounds, Lengths, lengths, pageLength, lineIndex, lineLength, characterIndex, State, onRun, here, endOf, shapeOf, rightsOf, withFile, fileOpened, rewound, Event, legal, sizesFit, allUpTo, lengthsFit, someRight, shapeFits, bookFits, moodsFit, allFits, rowFits}
-use Rattle.rules.specs.Step.{Ending, Out, done, ends, Step, _>>=_, andThen, caught, pure, halt, refuse, refusal, stopped, attempt, look, change, changeRun, branch, test, need, again, pass, moodOn, backspace, reset, size}
+use Rattle.rules.specs.Step.{Ending, Out, done, ends, Step, _>>=_, andThen, caught, pure, halt, refuse, refusalAt, stopped, attempt, look, change, changeRun, branch, test, need, again, pass, moodOn, backspace, reset, size}
 use Rattle.rules.specs.Steps.{Action, Gives, goodLine, newline, newpage, setTo, putCharacter, roomFor, passBlanks, moreDigits, setCharacterNumber, printable, digit, execute}
 use Rattle.rules.specs.Whole.{wholeText, lowest}
 use Rattle.rules.specs.Calls.{Value, nothing, aCharacter, anInteger, aView, aString, begin, needRow, turnable, turn, putting, getting, established, establishing, opening, closing, resetting, backspacing, shown, shownLength, shownPart, orMarker, viewing, viewNumber, putCharacters, puttingString, putText, puttingInteger, takeCharacter, gettingCharacter, oneOf, stringCharacter, getCharacters, gettingString, firstDigit, withSign, integerGiven, signBefore, takeInteger, gettingInteger, inMoodOn, spacing, newlining, newpaging, settingCharacterNumber, setting, Plain, establishes, opens, closes, resets, backspaces, views, viewNumbers, Asking, putsCharacter, putsString, putsInteger, getsCharacter, getsInteger, spaces, newlines, newpages, getsString, sets, setsCharacterNumber, Call, plain, asking, plainWork, askingWork, work}
 use Rattle.rules.specs.Alike.{Seen}
 use Rattle.laws.proofs.Order.{yes, and-l, and-r, not-and, neqb→neq, Lt, by-page, by-line, by-character, Le, le-page, le-line, le-character, before→Lt, Lt→before, nbefore→Le}
 use Rattle.laws.proofs.Entry.{all-getD, Legal, legal-facts, Sizes, sizes-facts, Fits, fits-facts}
-use Rattle.unseen.proofs.Sim.{Moods, Shrunk, Sound, Inv, fits, Vis, Alike, Agree, Rel, both, over, Sim, Any, Free, Safe, sim-pure, sim-halt, sim-bind, sim-test, sim-branch, sim-look, sim-change, sim-weak, sim-attempt, from, given}
+use Rattle.unseen.proofs.Sim.{Moods, Shrunk, Sound, Inv, fits, Vis, Alike, Agree, Rel, both, over, Sim, Any, Free, Safe, sim-pure, sim-halt, sim-refuse, sim-bind, sim-test, sim-branch, sim-look, sim-change, sim-weak, sim-attempt, from, given}
 use Rattle.unseen.proofs.Moves.{Right, LineOk, sim-again, sim-need, sim-moodOn, sim-backspace, sim-reset}
 use Rattle.unseen.proofs.Texts.{sim-character}
 use Rattle.unseen.proofs.Bodies.{sim-passOk, sim-signals, sim-characterEvent, sim-space, sim-execute}
@@ -242,7 +242,7 @@ module _ {R : Rights} {L : Lengths} where
     unfolding firstDigit
     sim-firstDigit a = sim-bind sim-character λ b. sim-bind sim-passOk λ _.
         sim-branch (digit b) (λ _. sim-pure Free b)
-        (λ _. sim-bind (sim-characterEvent row (execute row) (sim-execute row) true 48 a) λ c. sim-branch (digit c) (λ _. sim-pure Free c) (λ _. sim-halt (refusal 8)))
+        (λ _. sim-bind (sim-look here) λ x. from (sim-bind (sim-characterEvent row (execute row) (sim-execute row) true 48 a) λ c. sim-branch (digit c) (λ _. sim-pure Free c) (λ _. sim-halt (refusalAt Event.character x 8))))
 
     sim-signBefore : Right R true → Sim R L Any (signBefore row) (λ _ s. LineOk true s)
     unfolding signBefore
@@ -255,7 +255,7 @@ module _ {R : Rights} {L : Lengths} where
     sim-integerGiven : (minus : Bool) (v : ℕ) → Right R true → Safe R L (integerGiven row minus v)
     unfolding integerGiven
     sim-integerGiven minus v a = sim-branch (leb v 2147483647) (λ _. sim-pure Free (anInteger (withSign minus v)))
-        (λ _. sim-bind (sim-signals row (execute row) (sim-execute row) Event.value true a (sim-halt (refusal 9))) λ _. sim-pure Free nothing)
+        (λ _. sim-bind (sim-signals row (execute row) (sim-execute row) Event.value true a (sim-refuse Event.value 9)) λ _. sim-pure Free nothing)
 
     sim-takeInteger : Right R true → Safe R L (takeInteger row)
     unfolding takeInteger

@@ -12,7 +12,7 @@ use Rattle.rules.specs.declared.Position.{Position}
 use Rattle.rules.specs.declared.Shape.{Shape}
 use Rattle.rules.specs.declared.Rights.{Rights}
 use Rattle.rules.specs.Book.{choose, Lengths, State, here, endOf, shapeOf, rightsOf, pageLength, lineLength, characterIndex, Event, Mending, Answer, isFalse, jump, isTrue}
-use Rattle.rules.specs.Step.{Ending, Out, done, ends, Step, _>>=_, pure, halt, refusal, look, change, test, branch, andThen, caught, attempt}
+use Rattle.rules.specs.Step.{Ending, Out, done, ends, Step, _>>=_, pure, halt, refuseAt, look, change, test, branch, andThen, caught, attempt}
 use Rattle.rules.specs.Steps.{upon, rank}
 use Rattle.rules.specs.Ready.{Rules}
 use Rattle.laws.proofs.Order.{Lt, Le, le-page, le-line, le-character, Pos1, lt-or-ge}
@@ -111,6 +111,11 @@ module _ {R : Rights} {L : Lengths} where
   unfolding halt
   sim-halt e = record { sim = λ s t t′ i q g. over i g }
 
+  -- a refusal that an event ends in: the position is of the state, which both runs share
+  pub sim-refuse : {A : Type 0} {P : State → Type 0} {Q : A → State → Type 0} (event : Event) (n : ℕ) → Sim R L P (refuseAt event n) Q
+  unfolding halt
+  sim-refuse event n = record { sim = λ s t t′ i q g. over i g }
+
   rel-next : {A B : Type 0} {Q : A → State → Type 0} {W : B → State → Type 0} {k : A → Step B} → ((a : A) → Sim R L (Q a) (k a) W)
       → {x y : Out A} → Rel R L Q x y → Rel R L W (andThen k x) (andThen k y)
   rel-next h (both {a = a} {s = s} {t = t} {t′ = t′} i q g) = h a .sim s t t′ i q g
@@ -142,7 +147,7 @@ module _ {R : Rights} {L : Lengths} where
   pub sim-upon : {A : Type 0} {P : State → Type 0} {Q : A → State → Type 0} (event : Event) (a : Answer) {f : Mending → Step A} {d : Step A}
       → Sim R L P d Q → ((m : Mending) → Sim R L P (f m) Q) → Sim R L P (upon event a f d) Q
   sim-upon event isFalse hd hf = hd
-  sim-upon event jump hd hf = sim-halt (refusal 11)
+  sim-upon event jump hd hf = sim-refuse event 11
   sim-upon event (isTrue m) hd hf = hf m
 
   pub sim-look : {A : Type 0} {P : State → Type 0} (f : State → A) → Sim R L P (look f) (λ a s. P s × (a ≡ f s))

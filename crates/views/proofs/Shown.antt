@@ -22,7 +22,7 @@ use Rattle.laws.proofs.Ways.{need-true, need-false, attempt-done, attempt-ends}
 use Rattle.laws.proofs.Entry.{Fits, fits-facts}
 use Rattle.laws.proofs.Shown.{shown-facts, page-in, line-in, shown-in-text}
 use Rattle.entry.specs.Before.{beforeWork, refusedReply}
-use Rattle.begins.proofs.Begins.{startOf, begin-is, checked-fits, checked-no, checked-on, reply-ends, reply-nothing}
+use Rattle.begins.proofs.Begins.{startOf, begin-is, checked-fits, checked-no, checked-on, reply-refused, reply-nothing}
 use Rattle.views.specs.declared.Span.{Span}
 use Rattle.views.specs.declared.ViewPlace.{ViewPlace}
 use Rattle.views.specs.Spans.{span, noSpan, lineSpan, spanOf, viewAfter, numberAfter, viewPlace, placeOf, Viewed}
@@ -146,7 +146,7 @@ module _ (p l : ℕ) (s : State) (t : List ℕ) where
     where
       by : (k : ℕ) (b : Bool) → eqb k 0 ≡ b → after (refusedReply (s .run) k) [] t (s .lengths .lines) (s .lengths .pages) ≡ leave [] (choose b (pure nothing s t) (ends (refusal k) s t))
       by k true e = ap (λ (j : ℕ). after (refusedReply (s .run) j) [] t (s .lengths .lines) (s .lengths .pages)) (eqb-true k 0 e) ∙ plain-done s t
-      by k false e = reply-ends [] (refusedBy (s .run) k) t (s .lengths .lines) (s .lengths .pages) refl
+      by k false e = reply-refused [] (s .run) k t (s .lengths .lines) (s .lengths .pages) refl
 
   -- the view
   module _ (marker : List ℕ) where

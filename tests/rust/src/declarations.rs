@@ -51,11 +51,13 @@ pub struct CallResult {
     pub number: u8,
     pub stop: u8,
     pub given: u8,
+    pub event: u8,
     pub value: i32,
     pub events: usize,
     pub taken: usize,
     pub count: usize,
     pub end: Position,
+    pub signalled: Position,
 }
 
 /// The header's `transput_view`.

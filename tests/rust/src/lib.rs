@@ -50,7 +50,7 @@ mod results;
 
 use declarations::Differences;
 pub use declarations::{CallResult, File, Position, Rights, Shape, Span};
-pub use results::{Answer, Given, Outcome, Refusal, Stop, View};
+pub use results::{Answer, Event, Given, Outcome, Refusal, Signalled, Stop, View};
 
 impl Position {
     /// The place (1, 1, 1).

@@ -12,29 +12,31 @@ pub enum Refusal {
     NoRight = 4,
     NoMood = 5,
     OutOfRange = 6,
-    EndUnmended = 7,
     BadCharacter = 8,
     BadValue = 9,
     LineTooShort = 10,
     Jumped = 11,
     OutputTooShort = 12,
+    LogicalEndUnmended = 14,
+    PhysicalEndUnmended = 15,
 }
 
 impl Refusal {
     /// Every refusal, in the order of their numbers.
-    pub const ALL: [Refusal; 12] = [
+    pub const ALL: [Refusal; 13] = [
         Refusal::NotOpen,
         Refusal::BadAnswers,
         Refusal::BadBook,
         Refusal::NoRight,
         Refusal::NoMood,
         Refusal::OutOfRange,
-        Refusal::EndUnmended,
         Refusal::BadCharacter,
         Refusal::BadValue,
         Refusal::LineTooShort,
         Refusal::Jumped,
         Refusal::OutputTooShort,
+        Refusal::LogicalEndUnmended,
+        Refusal::PhysicalEndUnmended,
     ];
 
     /// The number that the header gives it.
@@ -62,12 +64,13 @@ impl Refusal {
             Refusal::NoRight => "the channel lacks the right",
             Refusal::NoMood => "no mood is on, or it cannot be turned",
             Refusal::OutOfRange => "a place or a width is out of range",
-            Refusal::EndUnmended => "the end was met, and no answer mended it",
             Refusal::BadCharacter => "a character that cannot be put or got",
             Refusal::BadValue => "an integer that is too large",
             Refusal::LineTooShort => "the line is too short for an integer",
             Refusal::Jumped => "the program jumped away",
             Refusal::OutputTooShort => "the output is too short",
+            Refusal::LogicalEndUnmended => "no answer mended the logical end",
+            Refusal::PhysicalEndUnmended => "no answer mended the physical end",
         }
     }
 }
@@ -79,6 +82,58 @@ impl std::fmt::Display for Refusal {
 }
 
 impl std::error::Error for Refusal {}
+
+/// An event.
+#[derive(Clone, Copy, PartialEq, Eq, PartialOrd, Ord, Debug)]
+#[repr(u8)]
+pub enum Event {
+    /// Reading, or in set: the book has no more text.
+    LogicalEnd = 1,
+    /// Writing: the book has no more pages.
+    PhysicalEnd = 2,
+    PageEnd = 3,
+    LineEnd = 4,
+    /// A character that cannot be put or got.
+    Character = 5,
+    /// An integer too large.
+    Value = 6,
+}
+
+impl Event {
+    /// Every event, in the order of their numbers.
+    pub const ALL: [Event; 6] = [
+        Event::LogicalEnd,
+        Event::PhysicalEnd,
+        Event::PageEnd,
+        Event::LineEnd,
+        Event::Character,
+        Event::Value,
+    ];
+
+    /// The number that the header gives it.
+    pub fn number(self) -> u8 {
+        self as u8
+    }
+
+    /// The event of a number; none for 0.
+    ///
+    /// # Panics
+    /// On a number that the header does not have.
+    pub fn of_number(number: u8) -> Option<Event> {
+        if number == 0 {
+            return None;
+        }
+        let found = Event::ALL.iter().find(|one| one.number() == number);
+        Some(*found.unwrap_or_else(|| panic!("the library gave event {number}")))
+    }
+}
+
+/// An event that a refusal ended in, and the position at which it was signalled.
+#[derive(Clone, Copy, PartialEq, Eq, Debug)]
+pub struct Signalled {
+    pub event: Event,
+    pub at: Position,
+}
 
 /// Why a get of a string stopped.
 #[derive(Clone, Copy, PartialEq, Eq, PartialOrd, Ord, Debug)]
@@ -160,6 +215,8 @@ pub struct Outcome {
     pub refusal: Option<Refusal>,
     /// Why a get of a string stopped; none for another call, and where it was refused.
     pub stop: Option<Stop>,
+    /// The event that a refusal ended in.
+    pub signalled: Option<Signalled>,
     pub given: Given,
     /// Events signalled.
     pub events: usize,
@@ -180,9 +237,12 @@ impl Outcome {
 
 impl From<CallResult> for Outcome {
     fn from(result: CallResult) -> Outcome {
+        let at = result.signalled;
+        let event = Event::of_number(result.event);
         Outcome {
             refusal: Refusal::of_number(result.number),
             stop: Stop::of_number(result.stop),
+            signalled: event.map(|event| Signalled { event, at }),
             given: Given::of_numbers(result.given, result.value),
             events: result.events,
             taken: result.taken,

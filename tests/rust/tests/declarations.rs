@@ -84,21 +84,25 @@ fn print_result(printed: &mut String, result: &CallResult) {
         number,
         stop,
         given,
+        event,
         value,
         events,
         taken,
         count,
         end,
+        signalled,
     } = *result;
     print_line(
         printed,
-        format_args!("number {number} stop {stop} given {given} value {value}"),
+        format_args!("number {number} stop {stop} event {event}"),
     );
+    print_line(printed, format_args!("given {given} value {value}"));
     print_line(
         printed,
         format_args!("events {events} taken {taken} count {count}"),
     );
     print_position(printed, "end", end);
+    print_position(printed, "signalled", signalled);
 }
 
 /// Makes a call through Rust's declarations.

@@ -1,6 +1,9 @@
-//! The examples E1 to E11 of document 01, and its program `shown`, through the safe wrapper.
+//! The examples E1 to E11 of document 01, its program `shown`, and an event of a refusal, through the safe wrapper.
 
-use transput::{whole, Answer, Book, File, Outcome, Position, Refusal, Rights, Shape, Stop, View};
+use transput::{
+    whole, Answer, Book, Event, File, Outcome, Position, Refusal, Rights, Shape, Signalled, Stop,
+    View,
+};
 
 /// A record and its book.
 struct Scene {
@@ -170,6 +173,24 @@ fn e11_the_least_integer() {
     let mut scene = Scene::established(11);
     let outcome = scene.file.put_integer(&mut scene.book, i32::MIN, &[]);
     assert_eq!(outcome.refusal, Some(Refusal::BadValue));
+}
+
+/// Document 02, C-12: "A refusal that an event ends in .. gives that event and the position at which it was signalled; any other
+/// result gives none."
+#[test]
+fn a_refusal_tells_its_event() {
+    let mut scene = Scene::established(8);
+    let jump = [Answer::Jump.word()];
+    let outcome = scene.file.put_string(&mut scene.book, b"abcdefghij", &jump);
+    assert_eq!(outcome.refusal, Some(Refusal::Jumped));
+    let told = Signalled {
+        event: Event::LineEnd,
+        at: Position::new(1, 1, 9),
+    };
+    assert_eq!(outcome.signalled, Some(told));
+    let outcome = scene.file.put_integer(&mut scene.book, i32::MIN, &[]);
+    assert_eq!(outcome.refusal, Some(Refusal::BadValue));
+    assert_eq!(outcome.signalled, None);
 }
 
 /// Every shown line as the program `shown` prints it: page, line, count of characters, and the line or the marker.

@@ -8,7 +8,9 @@ use std::mem::{align_of, offset_of, size_of};
 use std::process::Command;
 
 use transput::declarations::{Differences, ViewPlace, Wrote};
-use transput::{Answer, CallResult, File, Given, Position, Refusal, Rights, Shape, Span, Stop};
+use transput::{
+    Answer, CallResult, Event, File, Given, Position, Refusal, Rights, Shape, Span, Stop,
+};
 
 /// The size of the field that a function picks.
 fn field_size<Struct, Field>(_: fn(&Struct) -> &Field) -> usize {
@@ -35,7 +37,7 @@ fn structs() -> Vec<String> {
         struct_lines!("transput_shape", Shape, pages lines characters),
         struct_lines!("transput_rights", Rights, get put set reset compress),
         struct_lines!("transput_file", File, position shape opened reading writing rights),
-        struct_lines!("transput_result", CallResult, number stop given value events taken count end),
+        struct_lines!("transput_result", CallResult, number stop given event value events taken count end signalled),
         struct_lines!("transput_view", ViewPlace, number marker from count),
         struct_lines!("transput_wrote", Wrote, number count),
         struct_lines!("transput_span", Span, page line first last),
@@ -44,9 +46,10 @@ fn structs() -> Vec<String> {
     .concat()
 }
 
-/// The names of the header for each refusal and each stop.
+/// The names of the header for each refusal, each event and each stop.
 fn numbers_and_stops() -> Vec<(&'static str, u32)> {
     let number = |refusal: Refusal| u32::from(refusal.number());
+    let event = |event: Event| u32::from(event.number());
     let stop = |stop: Stop| u32::from(stop.number());
     vec![
         ("TRANSPUT_DONE", 0),
@@ -56,12 +59,26 @@ fn numbers_and_stops() -> Vec<(&'static str, u32)> {
         ("TRANSPUT_NO_RIGHT", number(Refusal::NoRight)),
         ("TRANSPUT_NO_MOOD", number(Refusal::NoMood)),
         ("TRANSPUT_OUT_OF_RANGE", number(Refusal::OutOfRange)),
-        ("TRANSPUT_END_UNMENDED", number(Refusal::EndUnmended)),
         ("TRANSPUT_BAD_CHARACTER", number(Refusal::BadCharacter)),
         ("TRANSPUT_BAD_VALUE", number(Refusal::BadValue)),
         ("TRANSPUT_LINE_TOO_SHORT", number(Refusal::LineTooShort)),
         ("TRANSPUT_JUMPED", number(Refusal::Jumped)),
         ("TRANSPUT_OUTPUT_TOO_SHORT", number(Refusal::OutputTooShort)),
+        (
+            "TRANSPUT_LOGICAL_END_UNMENDED",
+            number(Refusal::LogicalEndUnmended),
+        ),
+        (
+            "TRANSPUT_PHYSICAL_END_UNMENDED",
+            number(Refusal::PhysicalEndUnmended),
+        ),
+        ("TRANSPUT_EVENT_NONE", 0),
+        ("TRANSPUT_EVENT_LOGICAL_END", event(Event::LogicalEnd)),
+        ("TRANSPUT_EVENT_PHYSICAL_END", event(Event::PhysicalEnd)),
+        ("TRANSPUT_EVENT_PAGE_END", event(Event::PageEnd)),
+        ("TRANSPUT_EVENT_LINE_END", event(Event::LineEnd)),
+        ("TRANSPUT_EVENT_CHARACTER", event(Event::Character)),
+        ("TRANSPUT_EVENT_VALUE", event(Event::Value)),
         ("TRANSPUT_NO_STOP", 0),
         ("TRANSPUT_TERMINATOR", stop(Stop::Terminator)),
         ("TRANSPUT_LINE_ENDED", stop(Stop::LineEnded)),

@@ -6,14 +6,18 @@
 #[path = "common/episodes.rs"]
 mod episodes;
 
-use std::collections::BTreeMap;
+use std::collections::{BTreeMap, BTreeSet};
 
 use episodes::{Episode, Side, Stage};
+use second::book::Position as SecondPosition;
 use second::calls::CallResult as SecondResult;
+use second::refusals::{Event as SecondEvent, Signalled as SecondSignalled};
 use second::replay::{call_name, Call, Line, Player};
 use second::side::Side as SecondSide;
 use second::spans::{differing_spans, Looked};
-use transput::{calls, Book, File, Given, Outcome, Position, Refusal, Span, Stop, View};
+use transput::{
+    calls, Book, Event, File, Given, Outcome, Position, Refusal, Signalled, Span, Stop, View,
+};
 
 /// Episodes that are played where nothing else is said.
 const EPISODES: u64 = 40_000;
@@ -75,6 +79,7 @@ fn outcome_of_count(book: &Book, counted: Result<usize, Refusal>) -> Outcome {
     Outcome {
         refusal: counted.err(),
         stop: None,
+        signalled: None,
         given: Given::Nothing,
         events: 0,
         taken: 0,
@@ -160,6 +165,27 @@ fn difference_of_results(made: &Made, result: &SecondResult) -> Option<String> {
     (ours != *result).then(|| format!("result {ours:?}, second {result:?}"))
 }
 
+/// An event that is told in the form of the second implementation. It was signalled at a place of the book.
+fn second_signalled(told: Signalled) -> SecondSignalled {
+    let number = |number: usize| u32::try_from(number).expect("a place of the book");
+    let Position {
+        page,
+        line,
+        character,
+    } = told.at;
+    SecondSignalled {
+        event: match told.event {
+            Event::LogicalEnd => SecondEvent::LogicalEnd,
+            Event::PhysicalEnd => SecondEvent::PhysicalEnd,
+            Event::PageEnd => SecondEvent::PageEnd,
+            Event::LineEnd => SecondEvent::LineEnd,
+            Event::Character => SecondEvent::Character,
+            Event::Value => SecondEvent::Value,
+        },
+        position: SecondPosition::new(number(page), number(line), number(character)),
+    }
+}
+
 /// What was handed back in the form of the second implementation.
 fn second_form(made: &Made) -> SecondResult {
     let outcome = made.outcome;
@@ -175,6 +201,7 @@ fn second_form(made: &Made) -> SecondResult {
             Given::Integer(value) => Some(value),
         },
         bytes: made.bytes.clone(),
+        signalled: outcome.signalled.map(second_signalled),
     }
 }
 
@@ -272,12 +299,13 @@ impl Pair {
     }
 }
 
-/// How often each call gave each number, each stop came, each kind of answer was taken, a call took several answers,
-/// something of the book was lent empty, spans were listed, and a span was an empty line.
+/// How often each call gave each number, each stop came, each event was told with a number, each kind of answer was taken, a call
+/// took several answers, something of the book was lent empty, spans were listed, and a span was an empty line.
 #[derive(Default)]
 struct Counts {
     numbers: BTreeMap<(&'static str, u32), u64>,
     stops: [u64; 5],
+    told: BTreeMap<(u8, u32), u64>,
     kinds: [u64; 9],
     several_answers: u64,
     empty: u64,
@@ -290,6 +318,10 @@ impl Counts {
         let number = (call_name(call), result.number);
         *self.numbers.entry(number).or_default() += 1;
         self.stops[usize::from(result.stop)] += 1;
+        if let Some(signalled) = result.signalled {
+            let told = (signalled.event as u8 + 1, result.number);
+            *self.told.entry(told).or_default() += 1;
+        }
         for word in row.iter().take(result.taken as usize) {
             self.kinds[(word >> 28) as usize] += 1;
         }
@@ -321,9 +353,13 @@ impl Counts {
     /// Every call was done and refused, and all else that is counted came.
     fn assert_covered(&self) {
         let keys = || self.numbers.keys();
-        for number in 0..=12 {
-            assert!(keys().any(|key| key.1 == number), "number {number}");
-        }
+        let refusals = Refusal::ALL.iter().map(|one| u32::from(one.number()));
+        let numbers: BTreeSet<u32> = keys().map(|key| key.1).collect();
+        assert_eq!(numbers, refusals.chain([0]).collect());
+        let told: Vec<(u8, u32)> = self.told.keys().copied().collect();
+        let every = [(1, 11), (1, 14), (2, 11), (2, 15), (3, 11), (4, 11)];
+        let more = [(5, 8), (5, 11), (6, 9), (6, 11)];
+        assert_eq!(told, [&every[..], &more[..]].concat());
         let done = keys().filter(|key| key.1 == 0).count();
         assert_eq!(done, 19, "calls that were done");
         let of_differ = keys().filter(|key| key.0 == "differ").map(|key| key.1);

@@ -2,13 +2,15 @@
 //! 1, 3, 2, 9, 4, 5, 6, 12.
 
 use crate::book::{establish_fits, open_fits, record_and_book_fit, Book, File, Position};
+use crate::refusals::{Ending, Refusal, Signalled};
 use crate::spans::{differing_spans, Looked, Span};
 use crate::steps;
-use crate::steps::{needed_mood, read_answer, set_mood, Mood, Refusal, Work};
+use crate::steps::{needed_mood, read_answer, set_mood, Mood, Work};
 
 /// "A call's result is all it hands back: number, events signalled, answers taken, stop, count,
 /// the character or integer if one is given, a view's characters." `bytes` holds the whole lent
-/// output of get_string, whole and differ, and the part that view hands back.
+/// output of get_string, whole and differ, and the part that view hands back. `signalled` is the
+/// event that a refusal ended in (C-12): "any other result gives none".
 #[derive(Clone, PartialEq, Eq, Debug, Default)]
 pub struct CallResult {
     pub number: u32,
@@ -18,6 +20,7 @@ pub struct CallResult {
     pub count: usize,
     pub value: Option<i32>,
     pub bytes: Vec<u8>,
+    pub signalled: Option<Signalled>,
 }
 
 /// A result that holds only its number.
@@ -28,7 +31,7 @@ fn only_number(done: Result<(), Refusal>) -> CallResult {
     }
 }
 
-/// A call that is refused before work.
+/// A call that is refused before work, and so in no event.
 fn refused(refusal: Refusal) -> CallResult {
     only_number(Err(refusal))
 }
@@ -112,12 +115,13 @@ fn test_get(file: &File) -> Result<(), Refusal> {
     test_turn(file, Mood::Reading)
 }
 
-/// Runs a step after the tests passed, and reports its number and its counts.
+/// Runs a step after the tests passed, and reports its number, its counts and the event that it
+/// was refused in.
 fn run<T>(
     file: &mut File,
     book: &mut Book,
     row: &[u32],
-    step: impl FnOnce(&mut Work) -> Result<T, Refusal>,
+    step: impl FnOnce(&mut Work) -> Result<T, Ending>,
 ) -> (CallResult, Option<T>) {
     let mut work = Work {
         file,
@@ -126,14 +130,15 @@ fn run<T>(
         events: 0,
         taken: 0,
     };
-    let (number, given) = match step(&mut work) {
-        Ok(given) => (0, Some(given)),
-        Err(refusal) => (refusal as u32, None),
+    let (number, signalled, given) = match step(&mut work) {
+        Ok(given) => (0, None, Some(given)),
+        Err(ending) => (ending.refusal as u32, ending.signalled, None),
     };
     let result = CallResult {
         number,
         events: work.events,
         taken: work.taken,
+        signalled,
         ..CallResult::default()
     };
     (result, given)
@@ -283,7 +288,7 @@ fn layout(
     file: &mut File,
     book: &mut Book,
     row: &[u32],
-    step: impl FnOnce(&mut Work) -> Result<(), Refusal>,
+    step: impl FnOnce(&mut Work) -> Result<(), Ending>,
 ) -> CallResult {
     let tested = test_record_and_row(file, book, row).and_then(|()| needed_mood(file));
     match tested {

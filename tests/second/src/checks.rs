@@ -1,9 +1,10 @@
 //! Checks of this implementation by itself: what document 01 promises of every call. What C-11
-//! promises is checked in `span_checks`.
+//! promises is checked in `span_checks`, what C-12 does in `event_checks`.
 
 use crate::book::{line_length, record_and_book_fit, shape_is_good, text_index};
 use crate::book::{Book, File, Position, Rights, Shape};
 use crate::calls::CallResult;
+use crate::event_checks::{check_events, EventProperties, Made};
 use crate::random::Random;
 use crate::replay::{make_call, Call};
 use crate::say;
@@ -214,8 +215,14 @@ fn none_grew(before: &OwnBook, after: &OwnBook) -> bool {
     lines.chain(pages).all(|(before, after)| after <= before)
 }
 
-/// One call on both sides of a pair, and all that is checked of it.
-fn check_call(properties: &mut Properties, pair: &mut [Owner; 2], call: &Call, row: &[u32]) {
+/// One call on both sides of a pair, and all that is checked of it. Gives the first side before
+/// the call, and what the call handed back.
+fn check_call(
+    properties: &mut Properties,
+    pair: &mut [Owner; 2],
+    call: &Call,
+    row: &[u32],
+) -> (Owner, CallResult) {
     let [one, other] = pair;
     let mut before = one.clone();
     let result = one.make(call, row);
@@ -241,10 +248,15 @@ fn check_call(properties: &mut Properties, pair: &mut [Owner; 2], call: &Call, r
     if before.fits() {
         properties.valid.check(one.fits(), || about);
     }
+    (before, result)
 }
 
 /// One episode: a scene, a twin of its book, and a list of calls.
-fn check_episode(random: &mut Random, properties: &mut Properties) {
+fn check_episode(
+    random: &mut Random,
+    properties: &mut Properties,
+    of_events: &mut EventProperties,
+) {
     let scene = random_scene(random);
     let owner = Owner::of_scene(&scene);
     let twin = owner.twin(random);
@@ -259,7 +271,14 @@ fn check_episode(random: &mut Random, properties: &mut Properties) {
             Vec::new()
         };
         let call = random_call(random, &hints);
-        check_call(properties, &mut pair, &call, &row);
+        let (before, result) = check_call(properties, &mut pair, &call, &row);
+        let made = Made {
+            before: &before,
+            call: &call,
+            row: &row,
+            result: &result,
+        };
+        check_events(random, of_events, &made, &mut pair[0]);
     }
 }
 
@@ -407,16 +426,18 @@ impl Properties {
 pub fn check(seed: u64, episodes: u64) -> (u64, u64) {
     let mut properties = Properties::new();
     let mut of_spans = SpanProperties::new();
+    let mut of_events = EventProperties::new();
     for episode in 0..episodes {
         let mut random = Random::for_episode(seed, episode);
-        check_episode(&mut random, &mut properties);
+        check_episode(&mut random, &mut properties, &mut of_events);
         for _ in 0..3 {
             check_integer(&mut random, &mut properties.integers);
             check_pair(&mut random, &mut of_spans);
         }
     }
     let mut total = (0, 0);
-    for property in properties.all().into_iter().chain(of_spans.all()) {
+    let all = properties.all().into_iter();
+    for property in all.chain(of_spans.all()).chain(of_events.all()) {
         let Property {
             name,
             checks,

@@ -336,6 +336,41 @@ mod tests {
         assert!(some(&empty_line), "an empty line");
     }
 
+    /// The number and the event of each call's line, as "11 line", with " later" where more
+    /// than one answer was taken.
+    fn told_events(output: &[u8]) -> Vec<String> {
+        let text = String::from_utf8_lossy(output);
+        let told = text.lines().filter_map(|line| {
+            let (_, group) = line.rsplit_once(" | ")?;
+            let words: Vec<&str> = line.split(' ').collect();
+            let event = group.split(' ').next()?;
+            let later = match words[3] {
+                "0" | "1" => "",
+                _ => " later",
+            };
+            Some(format!("{} {event}{later}", words[1]))
+        });
+        told.collect()
+    }
+
+    #[test]
+    fn calls_end_in_all_events_in_all_ways() {
+        let batch = make_batch(42, Books::One, 0, 1500);
+        let told = told_events(&batch.output);
+        for event in ["logical", "physical", "page", "line", "character", "value"] {
+            for way in ["", " later"] {
+                let jump = format!("11 {event}{way}");
+                assert!(told.contains(&jump), "{jump}");
+            }
+        }
+        for way in ["", " later"] {
+            for refusal in ["8 character", "9 value", "14 logical", "15 physical"] {
+                let refusal = format!("{refusal}{way}");
+                assert!(told.contains(&refusal), "{refusal}");
+            }
+        }
+    }
+
     #[test]
     fn a_row_stays_over_a_swap_and_serves_a_look() {
         let lines = make_batch(42, Books::Two, 0, 600).episodes.concat();

@@ -1,11 +1,11 @@
 //! Random episodes as scripts of the format that README gives: a scene that sets everything, or two of them, then calls
 //! with their rows, changes of the scene, bad lines and dumps.
 
-use crate::book::{record_and_book_fit, Book, File, Position, Rights};
+use crate::book::{record_and_book_fit, text_index, Book, File, Position, Rights};
 use crate::pairs::other_scene;
 use crate::random::Random;
 use crate::replay::{call_name, write_hex, write_position, Call, Player};
-use crate::scenes::{good_scene, Hints, Scene, Style, LARGE};
+use crate::scenes::{good_scene, Hints, Scene, Style, JUMP, LARGE};
 use crate::scenes::{hints_of, random_call, random_row, random_scene, random_target, random_text};
 use crate::spans::{differing_spans, Looked};
 
@@ -319,6 +319,34 @@ impl Maker<'_> {
         self.add(line);
     }
 
+    /// A get of an integer above the largest, from digits made for it on the end's line or on
+    /// the first; a blank or a line end ends them. The value event is often jumped from, also
+    /// after that line end.
+    fn add_large_integer(&mut self) {
+        let hints = self.hints();
+        let end = hints.end;
+        let place = match end.character > 11 {
+            true => Position::new(end.page, end.line, 1),
+            false => Position::START,
+        };
+        let index = text_index(hints.file.shape, place).filter(|_| hints.file.rights.get);
+        let Some(index) = index else {
+            return;
+        };
+        let mut digits = vec![self.random.pick([b'3', b'9']); self.random.pick([10, 11, 30])];
+        digits.push(b' ');
+        self.add(format!("text {index} {}", write_hex(&digits)));
+        self.add(write_record(true, true, false, place));
+        let row = match self.random.below(8) {
+            0 => vec![JUMP],
+            1 | 2 => vec![0, JUMP],
+            3 => random_row(&mut self.random, &hints),
+            _ => Vec::new(),
+        };
+        self.add(write_row(&row));
+        self.add("geti");
+    }
+
     /// One call, and what may stand before and after it.
     fn add_slot(&mut self) {
         if self.random.chance(8) {
@@ -367,6 +395,9 @@ impl Maker<'_> {
         }
         if self.random.chance(4) {
             self.add_crossing();
+        }
+        if self.random.chance(2) {
+            self.add_large_integer();
         }
         if self.random.rarely(1) && self.random.chance(30) {
             self.add_long_line();

@@ -3,6 +3,7 @@
 use crate::book::{Book, File, Position, Rights, Shape};
 use crate::calls;
 use crate::calls::CallResult;
+use crate::refusals::{Event, Signalled};
 use crate::side::Side;
 use crate::spans::{Looked, Span};
 
@@ -345,6 +346,28 @@ pub fn write_position(place: Position) -> String {
     format!("{} {} {}", place.page, place.line, place.character)
 }
 
+/// The name of an event: "one of `logical`, `physical`, `page`, `line`, `character`, `value`".
+pub fn event_name(event: Event) -> &'static str {
+    match event {
+        Event::LogicalEnd => "logical",
+        Event::PhysicalEnd => "physical",
+        Event::PageEnd => "page",
+        Event::LineEnd => "line",
+        Event::Character => "character",
+        Event::Value => "value",
+    }
+}
+
+/// An event and its position, `-` "where no event is given".
+fn write_signalled(signalled: Option<Signalled>) -> String {
+    match signalled {
+        None => "-".to_string(),
+        Some(Signalled { event, position }) => {
+            format!("{} {}", event_name(event), write_position(position))
+        }
+    }
+}
+
 /// The call of C-11 on two sides. Its list is lent full of ee.
 pub fn make_differ(size: usize, first: &mut Side, second: &mut Side) -> CallResult {
     let mut list = vec![Span::filled(0xee); size];
@@ -459,12 +482,13 @@ impl Player {
         self.show("differ", &result, output);
     }
 
-    /// "NAME NUMBER EVENTS TAKEN STOP COUNT VALUE BYTES | OPENED READ WRITE p l c | p l c".
+    /// "NAME NUMBER EVENTS TAKEN STOP COUNT VALUE BYTES | OPENED READ WRITE p l c | p l c", and
+    /// with C-12 "one more group at its end: ` | EVENT p l c`, or ` | -`".
     fn show(&self, name: &str, result: &CallResult, output: &mut Vec<u8>) {
         let value = result.value.map_or("-".to_string(), |n| n.to_string());
         let file = &self.first.file;
         let shown = format!(
-            "{} {} {} {} {} {} {} {} | {} {} {} {} | {}\n",
+            "{} {} {} {} {} {} {} {} | {} {} {} {} | {} | {}\n",
             name,
             result.number,
             result.events,
@@ -478,6 +502,7 @@ impl Player {
             u8::from(file.write_mood),
             write_position(file.position),
             write_position(self.first.logical_end),
+            write_signalled(result.signalled),
         );
         output.extend(shown.bytes());
     }

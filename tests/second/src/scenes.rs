@@ -519,8 +519,12 @@ fn random_row_length(random: &mut Random) -> usize {
     }
 }
 
+/// The answer of a program that jumped away.
+pub const JUMP: u32 = 8 << 28;
+
 /// A row of answers: mixed, of layout answers that signal events themselves, of one kind only,
-/// or of plain true ones; bad now and then.
+/// or of plain true ones; ended early by a jump, so that every event is jumped from; bad now
+/// and then.
 pub fn random_row(random: &mut Random, hints: &Hints) -> Vec<u32> {
     let length = random_row_length(random);
     let one_kind = random.between(0, 8);
@@ -537,8 +541,12 @@ pub fn random_row(random: &mut Random, hints: &Hints) -> Vec<u32> {
         };
         row.push(answer_word(random, hints, kind));
     }
+    if random.chance(15) {
+        row.truncate(random.pick([0, 0, 0, 1, 1, 2, 3, 5]));
+        row.push(JUMP);
+    }
     if random.chance(5) {
-        let index = random.below(length);
+        let index = random.below(row.len());
         row[index] = bad_answer_word(random);
     }
     row

@@ -3,23 +3,7 @@
 
 use crate::book::{in_bounds, line_index, line_length, page_length, text_index};
 use crate::book::{Book, File, Position};
-
-/// The numbers of document 01's table, but for 0.
-#[derive(Clone, Copy, PartialEq, Eq, Debug)]
-pub enum Refusal {
-    NotOpen = 1,
-    BadRow = 2,
-    BadBook = 3,
-    NoRight = 4,
-    NoMood = 5,
-    OutOfRange = 6,
-    EventUnmended = 7,
-    Character = 8,
-    Value = 9,
-    LineTooShort = 10,
-    JumpedAway = 11,
-    OutputTooShort = 12,
-}
+use crate::refusals::{Ending, Event, Refusal, Signalled};
 
 /// "Get calls turn read mood on and write mood off; put calls the reverse."
 #[derive(Clone, Copy, PartialEq, Eq, Debug)]
@@ -28,11 +12,13 @@ pub enum Mood {
     Writing,
 }
 
-/// What the program answered to an event: false, or true with the character it suggested.
+/// What the program answered to an event: false or true, with the character that it suggested.
+/// The event goes with it, because the default may be a refusal, which tells it.
 #[derive(Clone, Copy, PartialEq, Eq, Debug)]
-pub enum Reply {
-    False,
-    True(Option<u8>),
+pub struct Reply {
+    pub signalled: Signalled,
+    pub is_true: bool,
+    pub suggested: Option<u8>,
 }
 
 /// One call at work: the record, the book, the lent row, and the counts of events signalled
@@ -145,8 +131,9 @@ fn take_answer(work: &mut Work) -> Answer {
     }
 }
 
-/// Does what an answer's kind says. "A refusal inside an answer ends the outer call with it."
-fn do_answer(work: &mut Work, answer: Answer) -> Result<(), Refusal> {
+/// Does what an answer's kind says. "A refusal inside an answer ends the outer call with it",
+/// and with its event: "Nested answers report the innermost event."
+fn do_answer(work: &mut Work, answer: Answer, signalled: Signalled) -> Result<(), Ending> {
     match answer.kind {
         2 => newline(work),
         3 => newpage(work),
@@ -156,48 +143,59 @@ fn do_answer(work: &mut Work, answer: Answer) -> Result<(), Refusal> {
         ),
         5 => backspace(work),
         6 => reset(work),
-        8 => Err(Refusal::JumpedAway),
+        8 => Err(Ending::in_event(Refusal::JumpedAway, signalled)),
         _ => Ok(()),
     }
 }
 
-/// Signals an event. "After an answer the call's mood is set again"; a set made with no mood
-/// has none to set again (decision 12).
-fn signal(work: &mut Work, mood: Option<Mood>) -> Result<Reply, Refusal> {
+/// Signals an event where the record stands. "After an answer the call's mood is set again"; a
+/// set made with no mood has none to set again (decision 12).
+fn signal(work: &mut Work, event: Event, mood: Option<Mood>) -> Result<Reply, Ending> {
+    let position = work.file.position;
+    let signalled = Signalled { event, position };
     let answer = take_answer(work);
-    if answer.kind == 0 {
-        return Ok(Reply::False);
-    }
-    do_answer(work, answer)?;
-    if let Some(mood) = mood {
+    do_answer(work, answer, signalled)?;
+    let is_true = answer.kind != 0;
+    if let Some(mood) = mood.filter(|_| is_true) {
         set_mood(work.file, mood);
     }
     let suggested = u8::try_from(answer.character).ok();
-    Ok(Reply::True(suggested.filter(|_| answer.kind == 7)))
+    Ok(Reply {
+        signalled,
+        is_true,
+        suggested: suggested.filter(|_| answer.kind == 7),
+    })
+}
+
+/// The end that good file signals in a mood.
+fn file_end(mood: Mood) -> Event {
+    match mood {
+        Mood::Reading => Event::LogicalEnd,
+        Mood::Writing => Event::PhysicalEnd,
+    }
 }
 
 /// "Good file: reading, signal logical end while the position is at it; writing, signal
-/// physical end while p > P." True when the file is good, false when the event was answered 0.
-fn good_file(work: &mut Work, mood: Mood) -> Result<bool, Refusal> {
+/// physical end while p > P." None when the file is good, else the event that was answered 0.
+fn good_file(work: &mut Work, mood: Mood) -> Result<Option<Signalled>, Ending> {
     while file_ended(work, mood) {
-        if signal(work, Some(mood))? == Reply::False {
-            return Ok(false);
+        let reply = signal(work, file_end(mood), Some(mood))?;
+        if !reply.is_true {
+            return Ok(Some(reply.signalled));
         }
     }
-    Ok(true)
+    Ok(None)
 }
 
 /// "Good page: good file, then signal page end while l exceeds the page length. Default:
 /// newpage." Good file is tested again after every step (decision 22).
-fn good_page(work: &mut Work, mood: Mood) -> Result<bool, Refusal> {
+fn good_page(work: &mut Work, mood: Mood) -> Result<Option<Signalled>, Ending> {
     loop {
-        if !good_file(work, mood)? {
-            return Ok(false);
+        let ended = good_file(work, mood)?;
+        if ended.is_some() || !page_ended(work) {
+            return Ok(ended);
         }
-        if !page_ended(work) {
-            return Ok(true);
-        }
-        if signal(work, Some(mood))? == Reply::False {
+        if !signal(work, Event::PageEnd, Some(mood))?.is_true {
             newpage(work)?;
         }
     }
@@ -205,26 +203,27 @@ fn good_page(work: &mut Work, mood: Mood) -> Result<bool, Refusal> {
 
 /// "Good line: good page, then signal line end while c exceeds the line length. Default:
 /// newline."
-fn good_line(work: &mut Work, mood: Mood) -> Result<bool, Refusal> {
+fn good_line(work: &mut Work, mood: Mood) -> Result<Option<Signalled>, Ending> {
     loop {
-        if !good_page(work, mood)? {
-            return Ok(false);
+        let ended = good_page(work, mood)?;
+        if ended.is_some() || !line_ended(work) {
+            return Ok(ended);
         }
-        if !line_ended(work) {
-            return Ok(true);
-        }
-        if signal(work, Some(mood))? == Reply::False {
+        if !signal(work, Event::LineEnd, Some(mood))?.is_true {
             newline(work)?;
         }
     }
 }
 
-/// Good file's "Default: refusal 7".
-fn or_refusal_7(good: bool) -> Result<(), Refusal> {
-    if good {
-        Ok(())
-    } else {
-        Err(Refusal::EventUnmended)
+/// Good file's default where it was answered 0: refusal 14 for a logical end, 15 for a physical
+/// end. A page end and a line end never come here: their defaults are newpage and newline.
+fn refused_at_end(ended: Option<Signalled>) -> Result<(), Ending> {
+    match ended {
+        None => Ok(()),
+        Some(signalled) if signalled.event == Event::PhysicalEnd => {
+            Err(Ending::in_event(Refusal::PhysicalEnd, signalled))
+        }
+        Some(signalled) => Err(Ending::in_event(Refusal::LogicalEnd, signalled)),
     }
 }
 
@@ -255,11 +254,11 @@ fn move_position_and_end(work: &mut Work, place: Position) {
 /// "Newline: good page. On the logical end's line the position first moves to that end;
 /// reading starts newline again; writing cuts the line there if compress, else fills it with
 /// blanks, and position and end become (p, l+1, 1). On another line only the position moves."
-pub fn newline(work: &mut Work) -> Result<(), Refusal> {
+pub fn newline(work: &mut Work) -> Result<(), Ending> {
     let mood = needed_mood(work.file)?;
     loop {
-        let good = good_page(work, mood)?;
-        or_refusal_7(good)?;
+        let ended = good_page(work, mood)?;
+        refused_at_end(ended)?;
         let place = work.file.position;
         let end = work.book.logical_end;
         let next = Position::new(place.page, place.line + 1, 1);
@@ -310,11 +309,11 @@ fn cut_page_at_end(work: &mut Work) {
 /// "Newpage: good file. On the end's page the position first moves to the end; reading starts
 /// again; writing, the rest of the page is blanked, or with compress [the page is cut].
 /// Position and end become (p+1, 1, 1). On another page only the position moves."
-pub fn newpage(work: &mut Work) -> Result<(), Refusal> {
+pub fn newpage(work: &mut Work) -> Result<(), Ending> {
     let mood = needed_mood(work.file)?;
     loop {
-        let good = good_file(work, mood)?;
-        or_refusal_7(good)?;
+        let ended = good_file(work, mood)?;
+        refused_at_end(ended)?;
         let end = work.book.logical_end;
         let next = Position::new(work.file.position.page + 1, 1, 1);
         if work.file.position.page != end.page {
@@ -334,29 +333,29 @@ pub fn newpage(work: &mut Work) -> Result<(), Refusal> {
     }
 }
 
-/// "Set: beyond the logical end, go to that end and signal logical end (0: refusal 7; else
-/// done); out of bounds, refusal 6; else go." The right is asked first, in an answer too.
-pub fn set(work: &mut Work, target: Position) -> Result<(), Refusal> {
+/// "Set: beyond the logical end, go to that end and signal logical end (0: refusal 7", now 14;
+/// "else done); out of bounds, refusal 6; else go." The right is asked first, in an answer too.
+pub fn set(work: &mut Work, target: Position) -> Result<(), Ending> {
     if !work.file.rights.set {
-        return Err(Refusal::NoRight);
+        return Err(Refusal::NoRight.into());
     }
     if target.beyond(work.book.logical_end) {
         let mood = mood_on(work.file);
         work.file.position = work.book.logical_end;
-        let reply = signal(work, mood)?;
-        return or_refusal_7(reply != Reply::False);
+        let reply = signal(work, Event::LogicalEnd, mood)?;
+        return refused_at_end(Some(reply.signalled).filter(|_| !reply.is_true));
     }
     if !in_bounds(work.file.shape, work.book, target) {
-        return Err(Refusal::OutOfRange);
+        return Err(Refusal::OutOfRange.into());
     }
     work.file.position = target;
     Ok(())
 }
 
 /// "Backspace: c-1; at c = 1 refusal 6."
-pub fn backspace(work: &mut Work) -> Result<(), Refusal> {
+pub fn backspace(work: &mut Work) -> Result<(), Ending> {
     if work.file.position.character <= 1 {
-        return Err(Refusal::OutOfRange);
+        return Err(Refusal::OutOfRange.into());
     }
     work.file.position.character -= 1;
     Ok(())
@@ -371,9 +370,9 @@ pub fn start_again(file: &mut File) {
 }
 
 /// Reset needs its right, in an answer too (refusal 4, "unless in an answer").
-pub fn reset(work: &mut Work) -> Result<(), Refusal> {
+pub fn reset(work: &mut Work) -> Result<(), Ending> {
     if !work.file.rights.reset {
-        return Err(Refusal::NoRight);
+        return Err(Refusal::NoRight.into());
     }
     start_again(work.file);
     Ok(())
@@ -381,10 +380,10 @@ pub fn reset(work: &mut Work) -> Result<(), Refusal> {
 
 /// "Space: good line; reading, or writing before the logical end, c+1; writing at it, put a
 /// blank."
-pub fn space(work: &mut Work) -> Result<(), Refusal> {
+pub fn space(work: &mut Work) -> Result<(), Ending> {
     let mood = needed_mood(work.file)?;
-    let good = good_line(work, mood)?;
-    or_refusal_7(good)?;
+    let ended = good_line(work, mood)?;
+    refused_at_end(ended)?;
     let before_end = work.book.logical_end.beyond(work.file.position);
     if mood == Mood::Reading || before_end {
         work.file.position.character += 1;
@@ -395,10 +394,10 @@ pub fn space(work: &mut Work) -> Result<(), Refusal> {
 
 /// "Set char number n: while c is not n: n out of bounds for this line, refusal 6; else space
 /// or backspace."
-pub fn set_char_number(work: &mut Work, number: u32) -> Result<(), Refusal> {
+pub fn set_char_number(work: &mut Work, number: u32) -> Result<(), Ending> {
     while work.file.position.character != number {
         if !(1..=current_line_length(work) + 1).contains(&number) {
-            return Err(Refusal::OutOfRange);
+            return Err(Refusal::OutOfRange.into());
         }
         if number > work.file.position.character {
             space(work)?;
@@ -425,26 +424,33 @@ fn store_and_pass(work: &mut Work, byte: u8) {
     }
 }
 
+/// Signals character where the default is refusal 8: the byte that is suggested, or the one
+/// that the answer put in its place, and the event.
+fn signal_character(work: &mut Work, mood: Mood, suggested: u8) -> Result<(u8, Signalled), Ending> {
+    let reply = signal(work, Event::Character, Some(mood))?;
+    if !reply.is_true {
+        return Err(Ending::in_event(Refusal::Character, reply.signalled));
+    }
+    Ok((reply.suggested.unwrap_or(suggested), reply.signalled))
+}
+
 /// "Put a character: good line; a byte outside 32 to 126 signals character, suggesting a blank
 /// (default refusal 8; else the suggestion is tried the same way from the start)."
-pub fn put_character(work: &mut Work, byte: u8) -> Result<(), Refusal> {
+pub fn put_character(work: &mut Work, byte: u8) -> Result<(), Ending> {
     let mut tried = byte;
     loop {
-        let good = good_line(work, Mood::Writing)?;
-        or_refusal_7(good)?;
+        let ended = good_line(work, Mood::Writing)?;
+        refused_at_end(ended)?;
         if is_proper(tried) {
             store_and_pass(work, tried);
             return Ok(());
         }
-        match signal(work, Some(Mood::Writing))? {
-            Reply::False => return Err(Refusal::Character),
-            Reply::True(suggested) => tried = suggested.unwrap_or(b' '),
-        }
+        tried = signal_character(work, Mood::Writing, b' ')?.0;
     }
 }
 
 /// "Put a string: its characters in turn; an empty one only turns the mood."
-pub fn put_string(work: &mut Work, text: &[u8]) -> Result<(), Refusal> {
+pub fn put_string(work: &mut Work, text: &[u8]) -> Result<(), Ending> {
     for &byte in text {
         put_character(work, byte)?;
     }
@@ -454,20 +460,20 @@ pub fn put_string(work: &mut Work, text: &[u8]) -> Result<(), Refusal> {
 /// The repeated part of put an integer: "good line; line length below 11, refusal 10; if c + 11
 /// (c + 12 when c is not 1) exceeds line length + 1, signal line end, default newline, and
 /// repeat."
-fn find_room_for_integer(work: &mut Work) -> Result<(), Refusal> {
+fn find_room_for_integer(work: &mut Work) -> Result<(), Ending> {
     loop {
-        let good = good_line(work, Mood::Writing)?;
-        or_refusal_7(good)?;
+        let ended = good_line(work, Mood::Writing)?;
+        refused_at_end(ended)?;
         let length = current_line_length(work);
         if length < 11 {
-            return Err(Refusal::LineTooShort);
+            return Err(Refusal::LineTooShort.into());
         }
         let character = work.file.position.character;
         let needed = if character == 1 { 11 } else { 12 };
         if character + needed <= length + 1 {
             return Ok(());
         }
-        if signal(work, Some(Mood::Writing))? == Reply::False {
+        if !signal(work, Event::LineEnd, Some(Mood::Writing))?.is_true {
             newline(work)?;
         }
     }
@@ -475,7 +481,7 @@ fn find_room_for_integer(work: &mut Work) -> Result<(), Refusal> {
 
 /// "Put an integer: the text is whole(value, 11). [Find room.] Then a blank when c is not 1,
 /// and the text."
-pub fn put_integer(work: &mut Work, value: i32) -> Result<(), Refusal> {
+pub fn put_integer(work: &mut Work, value: i32) -> Result<(), Ending> {
     let text = whole(value, 11);
     find_room_for_integer(work)?;
     if work.file.position.character != 1 {
@@ -507,9 +513,9 @@ pub fn whole(value: i32, width: i32) -> Vec<u8> {
 }
 
 /// "Good line, pass it": the byte that was passed.
-fn pass_character(work: &mut Work) -> Result<u8, Refusal> {
-    let good = good_line(work, Mood::Reading)?;
-    or_refusal_7(good)?;
+fn pass_character(work: &mut Work) -> Result<u8, Ending> {
+    let ended = good_line(work, Mood::Reading)?;
+    refused_at_end(ended)?;
     let byte = current_byte(work);
     work.file.position.character += 1;
     Ok(byte)
@@ -517,28 +523,25 @@ fn pass_character(work: &mut Work) -> Result<u8, Refusal> {
 
 /// "Get a character: good line, pass it; a byte outside 32 to 126 signals character,
 /// suggesting a blank (default refusal 8); a suggestion is delivered as it is."
-pub fn get_character(work: &mut Work) -> Result<u8, Refusal> {
+pub fn get_character(work: &mut Work) -> Result<u8, Ending> {
     let byte = pass_character(work)?;
     if is_proper(byte) {
         return Ok(byte);
     }
-    match signal(work, Some(Mood::Reading))? {
-        Reply::False => Err(Refusal::Character),
-        Reply::True(suggested) => Ok(suggested.unwrap_or(b' ')),
-    }
+    Ok(signal_character(work, Mood::Reading, b' ')?.0)
 }
 
 /// A string's tests before a character: "good page, where a logical end answered 0 is stop 3;
 /// line end answered 0 is stop 2, with no newline". 0 when a character stands there.
-fn stop_at_place(work: &mut Work) -> Result<u8, Refusal> {
+fn stop_at_place(work: &mut Work) -> Result<u8, Ending> {
     loop {
-        if !good_page(work, Mood::Reading)? {
+        if good_page(work, Mood::Reading)?.is_some() {
             return Ok(3);
         }
         if !line_ended(work) {
             return Ok(0);
         }
-        if signal(work, Some(Mood::Reading))? == Reply::False {
+        if !signal(work, Event::LineEnd, Some(Mood::Reading))?.is_true {
             return Ok(2);
         }
     }
@@ -552,7 +555,7 @@ pub fn get_string(
     terminators: &[u8],
     output: &mut [u8],
     count: &mut usize,
-) -> Result<u8, Refusal> {
+) -> Result<u8, Ending> {
     for place in output.iter_mut() {
         let stop = stop_at_place(work)?;
         if stop != 0 {
@@ -568,10 +571,10 @@ pub fn get_string(
 }
 
 /// "Good line and pass blanks": the first byte that is none, not yet passed.
-fn pass_blanks(work: &mut Work) -> Result<u8, Refusal> {
+fn pass_blanks(work: &mut Work) -> Result<u8, Ending> {
     loop {
-        let good = good_line(work, Mood::Reading)?;
-        or_refusal_7(good)?;
+        let ended = good_line(work, Mood::Reading)?;
+        refused_at_end(ended)?;
         let byte = current_byte(work);
         if byte != b' ' {
             return Ok(byte);
@@ -581,7 +584,7 @@ fn pass_blanks(work: &mut Work) -> Result<u8, Refusal> {
 }
 
 /// "An optional sign": true when a minus was passed.
-fn pass_sign(work: &mut Work) -> Result<bool, Refusal> {
+fn pass_sign(work: &mut Work) -> Result<bool, Ending> {
     let byte = pass_blanks(work)?;
     if byte == b'-' || byte == b'+' {
         work.file.position.character += 1;
@@ -590,24 +593,24 @@ fn pass_sign(work: &mut Work) -> Result<bool, Refusal> {
 }
 
 /// "Then a digit. Anything else there is passed and signals character, suggesting '0'
-/// (default, or a suggestion that is no digit: refusal 8)."
-fn first_digit(work: &mut Work) -> Result<u8, Refusal> {
+/// (default, or a suggestion that is no digit: refusal 8)." Such a suggestion's refusal "gives
+/// the character event that the suggestion answered".
+fn first_digit(work: &mut Work) -> Result<u8, Ending> {
     let byte = pass_blanks(work)?;
     work.file.position.character += 1;
     if byte.is_ascii_digit() {
         return Ok(byte);
     }
-    match signal(work, Some(Mood::Reading))? {
-        Reply::False => Err(Refusal::Character),
-        Reply::True(suggested) => Some(suggested.unwrap_or(b'0'))
-            .filter(u8::is_ascii_digit)
-            .ok_or(Refusal::Character),
+    let (suggested, signalled) = signal_character(work, Mood::Reading, b'0')?;
+    if suggested.is_ascii_digit() {
+        return Ok(suggested);
     }
+    Err(Ending::in_event(Refusal::Character, signalled))
 }
 
 /// "More digits as long as they come, ended by a string's stops 2 and 3 or by a non-digit, not
 /// passed." The size never runs over: past the largest integer it only matters that it is.
-fn more_digits(work: &mut Work, first: u8) -> Result<u64, Refusal> {
+fn more_digits(work: &mut Work, first: u8) -> Result<u64, Ending> {
     let mut size = u64::from(first - b'0');
     while stop_at_place(work)? == 0 {
         let byte = current_byte(work);
@@ -620,20 +623,28 @@ fn more_digits(work: &mut Work, first: u8) -> Result<u64, Refusal> {
     Ok(size)
 }
 
+/// Signals value, after the last character of the text: "0 is refusal 9, else done with no value
+/// given".
+fn signal_value(work: &mut Work) -> Result<Option<i32>, Ending> {
+    let reply = signal(work, Event::Value, Some(Mood::Reading))?;
+    if reply.is_true {
+        Ok(None)
+    } else {
+        Err(Ending::in_event(Refusal::Value, reply.signalled))
+    }
+}
+
 /// "Get an integer: good line and pass blanks; an optional sign; the same for blanks; then a
 /// digit. [More digits.] Above 2147483647 signals value: 0 is refusal 9, else done with no
 /// value given."
-pub fn get_integer(work: &mut Work) -> Result<Option<i32>, Refusal> {
+pub fn get_integer(work: &mut Work) -> Result<Option<i32>, Ending> {
     let minus = pass_sign(work)?;
     let first = first_digit(work)?;
     let size = more_digits(work, first)?;
     match i32::try_from(size) {
         Ok(size) if minus => Ok(Some(-size)),
         Ok(size) => Ok(Some(size)),
-        Err(_) => match signal(work, Some(Mood::Reading))? {
-            Reply::False => Err(Refusal::Value),
-            Reply::True(_) => Ok(None),
-        },
+        Err(_) => signal_value(work),
     }
 }
 

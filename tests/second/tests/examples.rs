@@ -222,30 +222,31 @@ fn play(script: &str) -> String {
 #[test]
 fn the_example_of_replay() {
     let output = play("establish\nputs 6162636465666768696a\nreset\ngets 4 -");
-    let expected = "establish 0 0 0 0 0 - - | 1 0 1 1 1 1 | 1 1 1\n\
-        puts 0 1 0 0 0 - - | 1 0 1 1 2 3 | 1 2 3\n\
-        reset 0 0 0 0 0 - - | 1 0 0 1 1 1 | 1 2 3\n\
-        gets 0 0 0 4 4 - 61626364 | 1 1 0 1 1 5 | 1 2 3\n";
+    let expected = "establish 0 0 0 0 0 - - | 1 0 1 1 1 1 | 1 1 1 | -\n\
+        puts 0 1 0 0 0 - - | 1 0 1 1 2 3 | 1 2 3 | -\n\
+        reset 0 0 0 0 0 - - | 1 0 0 1 1 1 | 1 2 3 | -\n\
+        gets 0 0 0 4 4 - 61626364 | 1 1 0 1 1 5 | 1 2 3 | -\n";
     assert_eq!(output, expected);
 }
 
 #[test]
 fn good_file_is_tested_again_after_a_default_newpage() {
     let output = play("shape 1 1 1\nlend 1 1 1\nestablish\nputs 6161");
-    assert!(output.ends_with("puts 7 3 0 0 0 - - | 1 0 1 2 1 1 | 2 1 1\n"));
+    let expected = "puts 15 3 0 0 0 - - | 1 0 1 2 1 1 | 2 1 1 | physical 2 1 1\n";
+    assert!(output.ends_with(expected));
 }
 
 #[test]
 fn a_reader_at_the_end_of_a_full_last_line_hears_logical_end() {
     let scene = "shape 1 1 2\nlend 2 1 1\nrights g\nlines 0 02\npages 0 01\nend 1 1 3\n";
     let output = play(&format!("{scene}record 1 1 0 1 1 3\ngets 1 -"));
-    assert_eq!(output, "gets 0 1 0 3 0 - ee | 1 1 0 1 1 3 | 1 1 3\n");
+    assert_eq!(output, "gets 0 1 0 3 0 - ee | 1 1 0 1 1 3 | 1 1 3 | -\n");
 }
 
 #[test]
 fn set_asks_beyond_before_bounds() {
     let output = play("rights gps\nestablish\nset 9 0 0\nset 1 0 9");
-    assert!(output.contains("\nset 7 1 0 "));
+    assert!(output.contains("\nset 14 1 0 "));
     assert!(output.contains("\nset 6 0 0 "));
 }
 
@@ -253,7 +254,7 @@ fn set_asks_beyond_before_bounds() {
 fn a_row_serves_one_call_and_bad_lines_leave_it() {
     let output = play("establish\nrow 80000000\ndump\n puts\nputs 616161616161616161\nputs 61");
     assert!(output.contains("bad line 4\nputs 11 1 1 "));
-    assert!(output.ends_with("puts 0 1 0 0 0 - - | 1 0 1 1 2 2 | 1 2 2\n"));
+    assert!(output.ends_with("puts 0 1 0 0 0 - - | 1 0 1 1 2 2 | 1 2 2 | -\n"));
 }
 
 #[test]
@@ -308,5 +309,5 @@ fn numbers_of_any_size_are_refused() {
     owner.file.shape.characters = big;
     numbers.push(owner.call(calls::establish));
     let numbers: Vec<u32> = numbers.iter().map(|result| result.number).collect();
-    assert_eq!(numbers, [6, 6, 7, 3, 3, 3, 3]);
+    assert_eq!(numbers, [6, 6, 14, 3, 3, 3, 3]);
 }

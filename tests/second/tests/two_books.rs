@@ -50,11 +50,11 @@ fn two_texts(one: &str, other: &str, entries: usize) -> String {
 fn the_worked_example() {
     let output =
         play("establish\nputs 616263646566\nswap\nestablish\nputs 61625864595a39\ndiffer 3");
-    let expected = "establish 0 0 0 0 0 - - | 1 0 1 1 1 1 | 1 1 1\n\
-        puts 0 0 0 0 0 - - | 1 0 1 1 1 7 | 1 1 7\n\
-        establish 0 0 0 0 0 - - | 1 0 1 1 1 1 | 1 1 1\n\
-        puts 0 0 0 0 0 - - | 1 0 1 1 1 8 | 1 1 8\n\
-        differ 0 0 0 0 2 - 0101030301010507eeeeeeee | 1 0 1 1 1 8 | 1 1 8\n";
+    let expected = "establish 0 0 0 0 0 - - | 1 0 1 1 1 1 | 1 1 1 | -\n\
+        puts 0 0 0 0 0 - - | 1 0 1 1 1 7 | 1 1 7 | -\n\
+        establish 0 0 0 0 0 - - | 1 0 1 1 1 1 | 1 1 1 | -\n\
+        puts 0 0 0 0 0 - - | 1 0 1 1 1 8 | 1 1 8 | -\n\
+        differ 0 0 0 0 2 - 0101030301010507eeeeeeee | 1 0 1 1 1 8 | 1 1 8 | -\n";
     assert_eq!(output, expected);
 }
 
@@ -62,8 +62,8 @@ fn the_worked_example() {
 fn the_first_side_is_told_after_the_bars() {
     let script = "establish\nputs 6162\nswap\nopen\ndiffer 1\nswap\ndiffer 0";
     let output = play(script);
-    assert!(output.contains("\ndiffer 0 0 0 0 1 - 01010102 | 1 0 0 1 1 1 | 1 1 1\n"));
-    assert!(output.ends_with("\ndiffer 12 0 0 0 0 - - | 1 0 1 1 1 3 | 1 1 3\n"));
+    assert!(output.contains("\ndiffer 0 0 0 0 1 - 01010102 | 1 0 0 1 1 1 | 1 1 1 | -\n"));
+    assert!(output.ends_with("\ndiffer 12 0 0 0 0 - - | 1 0 1 1 1 3 | 1 1 3 | -\n"));
 }
 
 #[test]

@@ -55,6 +55,9 @@ use Rattle.running.proofs.moved.Reads as moved-reads
 use Rattle.running.proofs.next_word.Reads as next-word-reads
 use Rattle.running.proofs.place_of.Reads as place-of-reads
 use Rattle.running.proofs.refused.Reads as refused-reads
+use Rattle.running.proofs.refused_at.Reads as refused-at-reads
+use Rattle.running.proofs.file_end.Reads as file-end-reads
+use Rattle.running.proofs.file_end_number.Reads as file-end-number-reads
 use Rattle.running.proofs.reset.Reads as reset-reads
 use Rattle.running.proofs.signalled.Reads as signalled-reads
 use Rattle.running.proofs.stopped.Reads as stopped-reads
@@ -143,19 +146,19 @@ abbrev set-to-below : ℕ → In 4 set-to-kinds.ps
 set-to-below t = and 4 set-to-kinds.ps (falls 4 set-to-kinds.ps _<_ μ-set-to t) set-to.Pre
 
 abbrev follow-calls : ℕ → follow-lts.Claims
-follow-calls t = (kind-of-reads.Asked, kind-of-reads.Learnt, refused-reads.Asked, refused-reads.Learnt, perform-below t, perform.Post, goes-on-reads.Asked, goes-on-reads.Learnt, in-mood-reads.Asked, in-mood-reads.Learnt, finish-reads.Asked, finish-reads.Learnt)
+follow-calls t = (kind-of-reads.Asked, kind-of-reads.Learnt, refused-at-reads.Asked, refused-at-reads.Learnt, perform-below t, perform.Post, goes-on-reads.Asked, goes-on-reads.Learnt, in-mood-reads.Asked, in-mood-reads.Learnt, finish-reads.Asked, finish-reads.Learnt)
 
 follow-returns : (t : ℕ) → follow-lts.Need-returns (follow-calls t) (follow-at t) follow.Post
-follow-returns t c = follow-jumps _ _ _ _ (c .before .before .before .before .before .before .before .args .text .now) (c .before .before .before .before .before .before .before .pre .1) (c .before .before .kind-of .ensures) (c .before .if1 .taken) (c .refused .ensures)
+follow-returns t c = follow-jumps _ (c .before .before .before .before .before .before .before .args .event) _ _ _ (c .before .before .before .before .before .before .before .args .text .now) (c .before .before .before .before .before .before .before .pre .1) (c .before .before .kind-of .ensures) (c .before .if1 .taken) (c .refused-at .ensures)
 
 follow-perform-requires : (t : ℕ) → follow-lts.Need-perform-requires (follow-calls t) (follow-at t) follow.Post
-follow-perform-requires t c κs = let x = follow-perform _ _ _ _ (c .before .before .before .before .before .before .before .before .before .args .text .now) (c .before .before .before .before .before .before .before .before .before .pre .1) (c .before .before .before .before .kind-of .ensures) in (below (c .before .before .before .before .before .before .before .before .before .pre .0) (x .1), x .0)
+follow-perform-requires t c κs = let x = follow-perform _ (c .before .before .before .before .before .before .before .before .before .args .event) _ _ _ (c .before .before .before .before .before .before .before .before .before .args .text .now) (c .before .before .before .before .before .before .before .before .before .pre .1) (c .before .before .before .before .kind-of .ensures) in (below (c .before .before .before .before .before .before .before .before .before .pre .0) (x .1), x .0)
 
 follow-returns-2 : (t : ℕ) → follow-lts.Need-returns-2 (follow-calls t) (follow-at t) follow.Post
-follow-returns-2 t c = follow-done _ _ _ _ (c .before .before .before .before .before .before .before .before .before .before .before .before .before .before .before .before .before .before .before .before .args .text .now) (c .before .before .before .before .before .before .before .before .before .before .before .before .before .before .before .before .before .before .before .before .pre .1) (c .before .before .before .before .before .before .before .before .before .before .before .before .before .before .before .kind-of .ensures) (c .before .before .before .before .before .before .before .before .before .before .before .before .before .before .if1 .left) (reached (c .before .before .before .before .before .before .before .before .before .before .perform .result) (c .before .before .before .before .before .before .before .before .before .before .perform .ensures) (sym (c .before .before .before .goes-on .ensures) ∙ c .before .before .if2 .taken)) (c .before .in-mood .ensures) (c .finish .ensures)
+follow-returns-2 t c = follow-done _ (c .before .before .before .before .before .before .before .before .before .before .before .before .before .before .before .before .before .before .before .before .args .event) _ _ _ (c .before .before .before .before .before .before .before .before .before .before .before .before .before .before .before .before .before .before .before .before .args .text .now) (c .before .before .before .before .before .before .before .before .before .before .before .before .before .before .before .before .before .before .before .before .pre .1) (c .before .before .before .before .before .before .before .before .before .before .before .before .before .before .before .kind-of .ensures) (c .before .before .before .before .before .before .before .before .before .before .before .before .before .before .if1 .left) (reached (c .before .before .before .before .before .before .before .before .before .before .perform .result) (c .before .before .before .before .before .before .before .before .before .before .perform .ensures) (sym (c .before .before .before .goes-on .ensures) ∙ c .before .before .if2 .taken)) (c .before .in-mood .ensures) (c .finish .ensures)
 
 follow-returns-3 : (t : ℕ) → follow-lts.Need-returns-3 (follow-calls t) (follow-at t) follow.Post
-follow-returns-3 t c = let n = sym (c .before .goes-on .ensures) ∙ c .if2 .left in hands-on (c .before .before .before .before .before .before .before .before .perform .result) (follow-ends _ _ _ _ (c .before .before .before .before .before .before .before .before .before .before .before .before .before .before .before .before .before .before .args .text .now) (c .before .before .before .before .before .before .before .before .before .before .before .before .before .before .before .before .before .before .pre .1) (c .before .before .before .before .before .before .before .before .before .before .before .before .before .kind-of .ensures) (c .before .before .before .before .before .before .before .before .before .before .before .before .if1 .left) (halted (c .before .before .before .before .before .before .before .before .perform .result) (c .before .before .before .before .before .before .before .before .perform .ensures) n)) n
+follow-returns-3 t c = let n = sym (c .before .goes-on .ensures) ∙ c .if2 .left in hands-on (c .before .before .before .before .before .before .before .before .perform .result) (follow-ends _ (c .before .before .before .before .before .before .before .before .before .before .before .before .before .before .before .before .before .before .args .event) _ _ _ (c .before .before .before .before .before .before .before .before .before .before .before .before .before .before .before .before .before .before .args .text .now) (c .before .before .before .before .before .before .before .before .before .before .before .before .before .before .before .before .before .before .pre .1) (c .before .before .before .before .before .before .before .before .before .before .before .before .before .kind-of .ensures) (c .before .before .before .before .before .before .before .before .before .before .before .before .if1 .left) (halted (c .before .before .before .before .before .before .before .before .perform .result) (c .before .before .before .before .before .before .before .before .perform .ensures) n)) n
 
 abbrev good-file-Inv-loop : good-file-lts.InvT-loop
 good-file-Inv-loop reading string text₀ lines₀ pages₀ row here₀ text lines pages here = Looped row (Action.goodFile reading string) (state here₀ lines₀ pages₀) text₀ (state here lines pages) text × (length text ≡ length text₀) × (length lines ≡ length lines₀) × (length pages ≡ length pages₀)
@@ -164,7 +167,7 @@ abbrev good-file-μ-loop : good-file-lts.MeasureT-loop
 good-file-μ-loop reading string text₀ lines₀ pages₀ row here₀ text lines pages here = measure row (Action.goodFile reading string) (state here lines pages)
 
 abbrev good-file-calls : ℕ → good-file-lts.Claims
-good-file-calls t = (file-ended-reads.Asked, file-ended-reads.Learnt, next-word-reads.Asked, next-word-reads.Learnt, signalled-reads.Asked, signalled-reads.Learnt, kind-of-reads.Asked, kind-of-reads.Learnt, stopped-reads.Asked, stopped-reads.Learnt, refused-reads.Asked, refused-reads.Learnt, follow-below t, follow.Post, goes-on-reads.Asked, goes-on-reads.Learnt, finish-reads.Asked, finish-reads.Learnt)
+good-file-calls t = (file-ended-reads.Asked, file-ended-reads.Learnt, next-word-reads.Asked, next-word-reads.Learnt, signalled-reads.Asked, signalled-reads.Learnt, file-end-reads.Asked, file-end-reads.Learnt, kind-of-reads.Asked, kind-of-reads.Learnt, stopped-reads.Asked, stopped-reads.Learnt, file-end-number-reads.Asked, file-end-number-reads.Learnt, refused-at-reads.Asked, refused-at-reads.Learnt, follow-below t, follow.Post, goes-on-reads.Asked, goes-on-reads.Learnt, finish-reads.Asked, finish-reads.Learnt)
 
 good-file-loop-holds : (t : ℕ) → good-file-lts.Need-loop-holds (good-file-calls t) (good-file-at t) good-file.Post good-file-Inv-loop good-file-μ-loop
 good-file-loop-holds t c = (looped-start (c .before .before .before .before .args .text .now) (c .before .before .before .before .pre .1), refl, refl, refl)
@@ -173,22 +176,22 @@ good-file-signalled-requires : (t : ℕ) → good-file-lts.Need-signalled-requir
 good-file-signalled-requires t c κs = events-small _ _ _ (c .before .before .before .loop .inv .0 .from .ready)
 
 good-file-returns : (t : ℕ) → good-file-lts.Need-returns (good-file-calls t) (good-file-at t) good-file.Post good-file-Inv-loop good-file-μ-loop
-good-file-returns t c = goodFile-stops _ _ _ _ (c .before .before .before .before .before .before .before .before .loop .text) (c .before .before .before .before .before .before .before .before .loop .inv .0 .from .ready) (sym (c .before .before .before .before .before .before .before .file-ended .ensures) ∙ c .before .before .before .before .before .before .if1 .taken) (record { word = c .before .before .before .before .before .next-word .ensures; kind = c .before .before .before .kind-of .ensures; next = c .before .before .before .before .signalled .ensures }) (c .before .before .if2 .taken) (c .before .if3 .taken) (c .stopped .ensures) ∙ sym ((c .before .before .before .before .before .before .before .before .loop .inv .0) .same)
+good-file-returns t c = goodFile-stops _ _ _ _ (c .before .before .before .before .before .before .before .before .before .loop .text) (c .before .before .before .before .before .before .before .before .before .loop .inv .0 .from .ready) (sym (c .before .before .before .before .before .before .before .before .file-ended .ensures) ∙ c .before .before .before .before .before .before .before .if1 .taken) (record { word = c .before .before .before .before .before .before .next-word .ensures; kind = c .before .before .before .kind-of .ensures; next = c .before .before .before .before .before .signalled .ensures }) (c .before .before .if2 .taken) (c .before .if3 .taken) (c .stopped .ensures) ∙ sym ((c .before .before .before .before .before .before .before .before .before .loop .inv .0) .same)
 
 good-file-returns-2 : (t : ℕ) → good-file-lts.Need-returns-2 (good-file-calls t) (good-file-at t) good-file.Post good-file-Inv-loop good-file-μ-loop
-good-file-returns-2 t c = goodFile-refuses _ _ _ _ (c .before .before .before .before .before .before .before .before .loop .text) (c .before .before .before .before .before .before .before .before .loop .inv .0 .from .ready) (sym (c .before .before .before .before .before .before .before .file-ended .ensures) ∙ c .before .before .before .before .before .before .if1 .taken) (record { word = c .before .before .before .before .before .next-word .ensures; kind = c .before .before .before .kind-of .ensures; next = c .before .before .before .before .signalled .ensures }) (c .before .before .if2 .taken) (c .before .if3 .left) (c .refused .ensures) ∙ sym ((c .before .before .before .before .before .before .before .before .loop .inv .0) .same)
+good-file-returns-2 t c = goodFile-refuses _ _ _ _ (c .before .before .before .before .before .before .before .before .before .before .loop .text) (c .before .before .before .before .before .before .before .before .before .before .loop .inv .0 .from .ready) (sym (c .before .before .before .before .before .before .before .before .before .file-ended .ensures) ∙ c .before .before .before .before .before .before .before .before .if1 .taken) (record { word = c .before .before .before .before .before .before .before .next-word .ensures; kind = c .before .before .before .before .kind-of .ensures; next = c .before .before .before .before .before .before .signalled .ensures }) (c .before .before .before .if2 .taken) (c .before .before .if3 .left) (c .before .before .before .before .before .file-end .ensures) (c .before .file-end-number .ensures) (c .refused-at .ensures) ∙ sym ((c .before .before .before .before .before .before .before .before .before .before .loop .inv .0) .same)
 
 good-file-follow-requires : (t : ℕ) → good-file-lts.Need-follow-requires (good-file-calls t) (good-file-at t) good-file.Post good-file-Inv-loop good-file-μ-loop
-good-file-follow-requires t c κs = let x = from-answer ((c .before .before .before .before .before .before .before .before .before .loop .inv .0) .from) (record { word = c .before .before .before .before .before .before .next-word .ensures; kind = c .before .before .before .before .kind-of .ensures; next = c .before .before .before .before .before .signalled .ensures }) (c .before .before .before .if2 .left) (Action.answered (c .before .before .before .before .before .before .before .before .before .before .before .before .before .before .args .reading) (mendingOf (c .before .before .before .before .before .before .next-word .result))) in (below (c .before .before .before .before .before .before .before .before .before .before .before .before .before .before .pre .0) (x .1), x .0)
+good-file-follow-requires t c κs = let x = from-answer ((c .before .before .before .before .before .before .before .before .before .before .loop .inv .0) .from) (record { word = c .before .before .before .before .before .before .before .next-word .ensures; kind = c .before .before .before .before .kind-of .ensures; next = c .before .before .before .before .before .before .signalled .ensures }) (c .before .before .before .if2 .left) (Action.answered (c .before .before .before .before .before .before .before .before .before .before .before .before .before .before .before .args .reading) (mendingOf (c .before .before .before .before .before .before .before .next-word .result))) in (below (c .before .before .before .before .before .before .before .before .before .before .before .before .before .before .before .pre .0) (x .1), x .0)
 
 good-file-returns-3 : (t : ℕ) → good-file-lts.Need-returns-3 (good-file-calls t) (good-file-at t) good-file.Post good-file-Inv-loop good-file-μ-loop
-good-file-returns-3 t c = hands-on (c .before .before .before .before .before .before .before .before .follow .result) ((c .before .before .before .before .before .before .before .before .before .before .before .before .before .before .before .before .before .before .loop .inv .0) .same ∙ goodFile-ends _ _ _ _ (c .before .before .before .before .before .before .before .before .before .before .before .before .before .before .before .before .before .before .loop .text) (c .before .before .before .before .before .before .before .before .before .before .before .before .before .before .before .before .before .before .loop .inv .0 .from .ready) (sym (c .before .before .before .before .before .before .before .before .before .before .before .before .before .before .before .before .before .file-ended .ensures) ∙ c .before .before .before .before .before .before .before .before .before .before .before .before .before .before .before .before .if1 .taken) (record { word = c .before .before .before .before .before .before .before .before .before .before .before .before .before .before .before .next-word .ensures; kind = c .before .before .before .before .before .before .before .before .before .before .before .before .before .kind-of .ensures; next = c .before .before .before .before .before .before .before .before .before .before .before .before .before .before .signalled .ensures }) (c .before .before .before .before .before .before .before .before .before .before .before .before .if2 .left) (halted (c .before .before .before .before .before .before .before .before .follow .result) (c .before .before .before .before .before .before .before .before .follow .ensures) (sym (c .before .goes-on .ensures) ∙ not-true _ (c .if4 .taken)))) (sym (c .before .goes-on .ensures) ∙ not-true _ (c .if4 .taken))
+good-file-returns-3 t c = hands-on (c .before .before .before .before .before .before .before .before .follow .result) ((c .before .before .before .before .before .before .before .before .before .before .before .before .before .before .before .before .before .before .before .loop .inv .0) .same ∙ goodFile-ends _ _ _ _ (c .before .before .before .before .before .before .before .before .before .before .before .before .before .before .before .before .before .before .before .loop .text) (c .before .before .before .before .before .before .before .before .before .before .before .before .before .before .before .before .before .before .before .loop .inv .0 .from .ready) (sym (c .before .before .before .before .before .before .before .before .before .before .before .before .before .before .before .before .before .before .file-ended .ensures) ∙ c .before .before .before .before .before .before .before .before .before .before .before .before .before .before .before .before .before .if1 .taken) (record { word = c .before .before .before .before .before .before .before .before .before .before .before .before .before .before .before .before .next-word .ensures; kind = c .before .before .before .before .before .before .before .before .before .before .before .before .before .kind-of .ensures; next = c .before .before .before .before .before .before .before .before .before .before .before .before .before .before .before .signalled .ensures }) (c .before .before .before .before .before .before .before .before .before .before .before .before .if2 .left) (c .before .before .before .before .before .before .before .before .before .before .before .before .before .before .file-end .ensures) (halted (c .before .before .before .before .before .before .before .before .follow .result) (c .before .before .before .before .before .before .before .before .follow .ensures) (sym (c .before .goes-on .ensures) ∙ not-true _ (c .if4 .taken)))) (sym (c .before .goes-on .ensures) ∙ not-true _ (c .if4 .taken))
 
 good-file-loop-less : (t : ℕ) → good-file-lts.Need-loop-less (good-file-calls t) (good-file-at t) good-file.Post good-file-Inv-loop good-file-μ-loop
-good-file-loop-less t c = looped-less (c .before .before .before .before .before .before .before .before .before .before .before .before .before .before .before .before .before .before .before .loop .inv .0) (from-start (c .before .before .before .before .before .before .before .before .before .before .before .before .before .before .before .before .before .before .before .loop .inv .0 .from .ready)) (followed-on (from-start (c .before .before .before .before .before .before .before .before .before .before .before .before .before .before .before .before .before .before .before .loop .inv .0 .from .ready)) (record { word = c .before .before .before .before .before .before .before .before .before .before .before .before .before .before .before .before .next-word .ensures; kind = c .before .before .before .before .before .before .before .before .before .before .before .before .before .before .kind-of .ensures; next = c .before .before .before .before .before .before .before .before .before .before .before .before .before .before .before .signalled .ensures }) (c .before .before .before .before .before .before .before .before .before .before .before .before .before .if2 .left) (c .before .before .before .before .before .before .before .before .before .before .before .before .before .before .before .before .before .before .before .before .before .before .before .before .args .reading) (c .before .before .before .before .before .before .before .before .before .before .before .before .before .before .before .before .before .before .before .loop .text) (reached (c .before .before .before .before .before .before .before .before .before .follow .result) (c .before .before .before .before .before .before .before .before .before .follow .ensures) (sym (c .before .before .goes-on .ensures) ∙ not-false _ (c .before .if4 .left))))
+good-file-loop-less t c = looped-less (c .before .before .before .before .before .before .before .before .before .before .before .before .before .before .before .before .before .before .before .before .loop .inv .0) (from-start (c .before .before .before .before .before .before .before .before .before .before .before .before .before .before .before .before .before .before .before .before .loop .inv .0 .from .ready)) (followed-on (from-start (c .before .before .before .before .before .before .before .before .before .before .before .before .before .before .before .before .before .before .before .before .loop .inv .0 .from .ready)) (record { word = c .before .before .before .before .before .before .before .before .before .before .before .before .before .before .before .before .before .next-word .ensures; kind = c .before .before .before .before .before .before .before .before .before .before .before .before .before .before .kind-of .ensures; next = c .before .before .before .before .before .before .before .before .before .before .before .before .before .before .before .before .signalled .ensures }) (c .before .before .before .before .before .before .before .before .before .before .before .before .before .if2 .left) (c .before .before .before .before .before .before .before .before .before .before .before .before .before .before .before .file-end .result) (c .before .before .before .before .before .before .before .before .before .before .before .before .before .before .before .before .before .before .before .before .before .before .before .before .before .args .reading) (c .before .before .before .before .before .before .before .before .before .before .before .before .before .before .before .before .before .before .before .before .loop .text) (reached (c .before .before .before .before .before .before .before .before .before .follow .result) (c .before .before .before .before .before .before .before .before .before .follow .ensures) (sym (c .before .before .goes-on .ensures) ∙ not-false _ (c .before .if4 .left))))
 
 good-file-loop-again : (t : ℕ) → good-file-lts.Need-loop-again (good-file-calls t) (good-file-at t) good-file.Post good-file-Inv-loop good-file-μ-loop
-good-file-loop-again t c = (looped-again (c .before .before .before .before .before .before .before .before .before .before .before .before .before .before .before .before .before .before .before .loop .inv .0) (from-start (c .before .before .before .before .before .before .before .before .before .before .before .before .before .before .before .before .before .before .before .loop .inv .0 .from .ready)) (followed-on (from-start (c .before .before .before .before .before .before .before .before .before .before .before .before .before .before .before .before .before .before .before .loop .inv .0 .from .ready)) (record { word = c .before .before .before .before .before .before .before .before .before .before .before .before .before .before .before .before .next-word .ensures; kind = c .before .before .before .before .before .before .before .before .before .before .before .before .before .before .kind-of .ensures; next = c .before .before .before .before .before .before .before .before .before .before .before .before .before .before .before .signalled .ensures }) (c .before .before .before .before .before .before .before .before .before .before .before .before .before .if2 .left) (c .before .before .before .before .before .before .before .before .before .before .before .before .before .before .before .before .before .before .before .before .before .before .before .before .args .reading) (c .before .before .before .before .before .before .before .before .before .before .before .before .before .before .before .before .before .before .before .loop .text) (reached (c .before .before .before .before .before .before .before .before .before .follow .result) (c .before .before .before .before .before .before .before .before .before .follow .ensures) (sym (c .before .before .goes-on .ensures) ∙ not-false _ (c .before .if4 .left)))) (goodFile-again _ _ _ _ (c .before .before .before .before .before .before .before .before .before .before .before .before .before .before .before .before .before .before .before .loop .text) (c .before .before .before .before .before .before .before .before .before .before .before .before .before .before .before .before .before .before .before .loop .inv .0 .from .ready) (sym (c .before .before .before .before .before .before .before .before .before .before .before .before .before .before .before .before .before .before .file-ended .ensures) ∙ c .before .before .before .before .before .before .before .before .before .before .before .before .before .before .before .before .before .if1 .taken) (record { word = c .before .before .before .before .before .before .before .before .before .before .before .before .before .before .before .before .next-word .ensures; kind = c .before .before .before .before .before .before .before .before .before .before .before .before .before .before .kind-of .ensures; next = c .before .before .before .before .before .before .before .before .before .before .before .before .before .before .before .signalled .ensures }) (c .before .before .before .before .before .before .before .before .before .before .before .before .before .if2 .left) (reached (c .before .before .before .before .before .before .before .before .before .follow .result) (c .before .before .before .before .before .before .before .before .before .follow .ensures) (sym (c .before .before .goes-on .ensures) ∙ not-false _ (c .before .if4 .left)))), c .before .before .before .before .before .before .before .before .before .follow .kept .1 .1 .1 .0 ∙ c .before .before .before .before .before .before .before .before .before .before .before .before .before .before .before .before .before .before .before .loop .inv .1, c .before .before .before .before .before .before .before .before .before .follow .kept .1 .1 .1 .1 .0 ∙ c .before .before .before .before .before .before .before .before .before .before .before .before .before .before .before .before .before .before .before .loop .inv .2, c .before .before .before .before .before .before .before .before .before .follow .kept .1 .1 .1 .1 .1 .0 ∙ c .before .before .before .before .before .before .before .before .before .before .before .before .before .before .before .before .before .before .before .loop .inv .3)
+good-file-loop-again t c = (looped-again (c .before .before .before .before .before .before .before .before .before .before .before .before .before .before .before .before .before .before .before .before .loop .inv .0) (from-start (c .before .before .before .before .before .before .before .before .before .before .before .before .before .before .before .before .before .before .before .before .loop .inv .0 .from .ready)) (followed-on (from-start (c .before .before .before .before .before .before .before .before .before .before .before .before .before .before .before .before .before .before .before .before .loop .inv .0 .from .ready)) (record { word = c .before .before .before .before .before .before .before .before .before .before .before .before .before .before .before .before .before .next-word .ensures; kind = c .before .before .before .before .before .before .before .before .before .before .before .before .before .before .kind-of .ensures; next = c .before .before .before .before .before .before .before .before .before .before .before .before .before .before .before .before .signalled .ensures }) (c .before .before .before .before .before .before .before .before .before .before .before .before .before .if2 .left) (c .before .before .before .before .before .before .before .before .before .before .before .before .before .before .before .file-end .result) (c .before .before .before .before .before .before .before .before .before .before .before .before .before .before .before .before .before .before .before .before .before .before .before .before .before .args .reading) (c .before .before .before .before .before .before .before .before .before .before .before .before .before .before .before .before .before .before .before .before .loop .text) (reached (c .before .before .before .before .before .before .before .before .before .follow .result) (c .before .before .before .before .before .before .before .before .before .follow .ensures) (sym (c .before .before .goes-on .ensures) ∙ not-false _ (c .before .if4 .left)))) (goodFile-again _ _ _ _ (c .before .before .before .before .before .before .before .before .before .before .before .before .before .before .before .before .before .before .before .before .loop .text) (c .before .before .before .before .before .before .before .before .before .before .before .before .before .before .before .before .before .before .before .before .loop .inv .0 .from .ready) (sym (c .before .before .before .before .before .before .before .before .before .before .before .before .before .before .before .before .before .before .before .file-ended .ensures) ∙ c .before .before .before .before .before .before .before .before .before .before .before .before .before .before .before .before .before .before .if1 .taken) (record { word = c .before .before .before .before .before .before .before .before .before .before .before .before .before .before .before .before .before .next-word .ensures; kind = c .before .before .before .before .before .before .before .before .before .before .before .before .before .before .kind-of .ensures; next = c .before .before .before .before .before .before .before .before .before .before .before .before .before .before .before .before .signalled .ensures }) (c .before .before .before .before .before .before .before .before .before .before .before .before .before .if2 .left) (c .before .before .before .before .before .before .before .before .before .before .before .before .before .before .before .file-end .ensures) (reached (c .before .before .before .before .before .before .before .before .before .follow .result) (c .before .before .before .before .before .before .before .before .before .follow .ensures) (sym (c .before .before .goes-on .ensures) ∙ not-false _ (c .before .if4 .left)))), c .before .before .before .before .before .before .before .before .before .follow .kept .1 .1 .1 .0 ∙ c .before .before .before .before .before .before .before .before .before .before .before .before .before .before .before .before .before .before .before .before .loop .inv .1, c .before .before .before .before .before .before .before .before .before .follow .kept .1 .1 .1 .1 .0 ∙ c .before .before .before .before .before .before .before .before .before .before .before .before .before .before .before .before .before .before .before .before .loop .inv .2, c .before .before .before .before .before .before .before .before .before .follow .kept .1 .1 .1 .1 .1 .0 ∙ c .before .before .before .before .before .before .before .before .before .before .before .before .before .before .before .before .before .before .before .before .loop .inv .3)
 
 good-file-returns-4 : (t : ℕ) → good-file-lts.Need-returns-4 (good-file-calls t) (good-file-at t) good-file.Post good-file-Inv-loop good-file-μ-loop
 good-file-returns-4 t c = goodFile-stays _ _ _ _ (c .before .before .before .loop .text) (c .before .before .before .loop .inv .0 .from .ready) (sym (c .before .before .file-ended .ensures) ∙ c .before .if1 .left) (c .finish .ensures) ∙ sym ((c .before .before .before .loop .inv .0) .same)
@@ -368,7 +371,7 @@ perform-returns-10 : (t : ℕ) → perform-lts.Need-returns-10 (perform-calls t)
 perform-returns-10 t c = perform-nothing _ _ _ (c .before .before .before .before .before .before .before .before .before .before .before .args .text .now) (c .before .before .before .before .before .before .before .before .before .before .before .pre .1) (c .before .before .before .before .before .before .kind-of .ensures) (c .before .before .before .before .before .if1 .left) (c .before .before .before .before .if4 .left) (c .before .before .before .if7 .left) (c .before .before .if8 .left) (c .before .if9 .left) (c .finish .ensures)
 
 abbrev set-to-calls : ℕ → set-to-lts.Claims
-set-to-calls t = (refused-reads.Asked, refused-reads.Learnt, is-before-reads.Asked, is-before-reads.Learnt, moved-reads.Asked, moved-reads.Learnt, next-word-reads.Asked, next-word-reads.Learnt, signalled-reads.Asked, signalled-reads.Learnt, kind-of-reads.Asked, kind-of-reads.Learnt, perform-below t, perform.Post, in-bounds-reads.Asked, in-bounds-reads.Learnt, finish-reads.Asked, finish-reads.Learnt)
+set-to-calls t = (refused-reads.Asked, refused-reads.Learnt, is-before-reads.Asked, is-before-reads.Learnt, moved-reads.Asked, moved-reads.Learnt, next-word-reads.Asked, next-word-reads.Learnt, signalled-reads.Asked, signalled-reads.Learnt, kind-of-reads.Asked, kind-of-reads.Learnt, refused-at-reads.Asked, refused-at-reads.Learnt, perform-below t, perform.Post, in-bounds-reads.Asked, in-bounds-reads.Learnt, finish-reads.Asked, finish-reads.Learnt)
 
 set-to-returns : (t : ℕ) → set-to-lts.Need-returns (set-to-calls t) (set-to-at t) set-to.Post
 set-to-returns t c = set-no-right _ _ _ (c .before .before .before .before .before .before .before .args .text .now) (c .before .before .before .before .before .before .before .pre .1) (not-true _ (c .before .if1 .taken)) (c .refused .ensures)
@@ -377,10 +380,10 @@ set-to-signalled-requires : (t : ℕ) → set-to-lts.Need-signalled-requires (se
 set-to-signalled-requires t c κs = events-small _ _ _ (set-from _ _ _ (c .before .before .before .before .before .before .before .before .before .before .before .args .text .now) (c .before .before .before .before .before .before .before .before .before .before .before .pre .1) (not-false _ (c .before .before .before .before .before .if1 .left)) (sym (c .before .before .before .is-before .ensures) ∙ c .before .before .if2 .taken) (c .before .moved .ensures) .ready)
 
 set-to-returns-2 : (t : ℕ) → set-to-lts.Need-returns-2 (set-to-calls t) (set-to-at t) set-to.Post
-set-to-returns-2 t c = set-refused _ _ _ (c .before .before .before .before .before .before .before .before .before .before .before .before .before .before .before .args .text .now) (c .before .before .before .before .before .before .before .before .before .before .before .before .before .before .before .pre .1) (not-false _ (c .before .before .before .before .before .before .before .before .before .if1 .left)) (sym (c .before .before .before .before .before .before .before .is-before .ensures) ∙ c .before .before .before .before .before .before .if2 .taken) (c .before .before .before .before .before .moved .ensures) (record { word = c .before .before .before .before .next-word .ensures; kind = c .before .before .kind-of .ensures; next = c .before .before .before .signalled .ensures }) (c .before .if3 .taken) (c .refused2 .ensures)
+set-to-returns-2 t c = set-refused _ _ _ (c .before .before .before .before .before .before .before .before .before .before .before .before .before .before .before .args .text .now) (c .before .before .before .before .before .before .before .before .before .before .before .before .before .before .before .pre .1) (not-false _ (c .before .before .before .before .before .before .before .before .before .if1 .left)) (sym (c .before .before .before .before .before .before .before .is-before .ensures) ∙ c .before .before .before .before .before .before .if2 .taken) (c .before .before .before .before .before .moved .ensures) (record { word = c .before .before .before .before .next-word .ensures; kind = c .before .before .kind-of .ensures; next = c .before .before .before .signalled .ensures }) (c .before .if3 .taken) (c .refused-at .ensures)
 
 set-to-returns-3 : (t : ℕ) → set-to-lts.Need-returns-3 (set-to-calls t) (set-to-at t) set-to.Post
-set-to-returns-3 t c = set-jumps _ _ _ (c .before .before .before .before .before .before .before .before .before .before .before .before .before .before .before .before .args .text .now) (c .before .before .before .before .before .before .before .before .before .before .before .before .before .before .before .before .pre .1) (not-false _ (c .before .before .before .before .before .before .before .before .before .before .if1 .left)) (sym (c .before .before .before .before .before .before .before .before .is-before .ensures) ∙ c .before .before .before .before .before .before .before .if2 .taken) (c .before .before .before .before .before .before .moved .ensures) (record { word = c .before .before .before .before .before .next-word .ensures; kind = c .before .before .before .kind-of .ensures; next = c .before .before .before .before .signalled .ensures }) (c .before .if4 .taken) (c .refused3 .ensures)
+set-to-returns-3 t c = set-jumps _ _ _ (c .before .before .before .before .before .before .before .before .before .before .before .before .before .before .before .before .args .text .now) (c .before .before .before .before .before .before .before .before .before .before .before .before .before .before .before .before .pre .1) (not-false _ (c .before .before .before .before .before .before .before .before .before .before .if1 .left)) (sym (c .before .before .before .before .before .before .before .before .is-before .ensures) ∙ c .before .before .before .before .before .before .before .if2 .taken) (c .before .before .before .before .before .before .moved .ensures) (record { word = c .before .before .before .before .before .next-word .ensures; kind = c .before .before .before .kind-of .ensures; next = c .before .before .before .before .signalled .ensures }) (c .before .if4 .taken) (c .refused-at2 .ensures)
 
 set-to-perform-requires : (t : ℕ) → set-to-lts.Need-perform-requires (set-to-calls t) (set-to-at t) set-to.Post
 set-to-perform-requires t c κs = let x = from-answer (set-from _ _ _ (c .before .before .before .before .before .before .before .before .before .before .before .before .before .before .before .before .before .before .args .text .now) (c .before .before .before .before .before .before .before .before .before .before .before .before .before .before .before .before .before .before .pre .1) (not-false _ (c .before .before .before .before .before .before .before .before .before .before .before .before .if1 .left)) (sym (c .before .before .before .before .before .before .before .before .before .before .is-before .ensures) ∙ c .before .before .before .before .before .before .before .before .before .if2 .taken) (c .before .before .before .before .before .before .before .before .moved .ensures)) (record { word = c .before .before .before .before .before .before .before .next-word .ensures; kind = c .before .before .before .before .before .kind-of .ensures; next = c .before .before .before .before .before .before .signalled .ensures }) (c .before .before .before .before .if3 .left) (Action.perform (mendingOf (c .before .before .before .before .before .before .before .next-word .result))) in (below (c .before .before .before .before .before .before .before .before .before .before .before .before .before .before .before .before .before .before .pre .0) (x .1), x .0)
@@ -395,103 +398,204 @@ set-to-returns-5 : (t : ℕ) → set-to-lts.Need-returns-5 (set-to-calls t) (set
 set-to-returns-5 t c = set-goes _ _ _ (c .before .before .before .before .before .before .before .before .before .before .before .before .before .before .before .before .args .text .now) (c .before .before .before .before .before .before .before .before .before .before .before .before .before .before .before .before .pre .1) (not-false _ (c .before .before .before .before .before .before .before .before .before .before .if1 .left)) (sym (c .before .before .before .before .before .before .before .before .is-before .ensures) ∙ c .before .before .before .before .before .before .before .if2 .left) (sym (c .before .before .before .in-bounds .ensures) ∙ c .before .before .if5 .taken) (c .before .moved2 .ensures) (c .finish .ensures)
 
 set-to-returns-6 : (t : ℕ) → set-to-lts.Need-returns-6 (set-to-calls t) (set-to-at t) set-to.Post
-set-to-returns-6 t c = set-outside _ _ _ (c .before .before .before .before .before .before .before .before .before .before .before .before .before .before .before .args .text .now) (c .before .before .before .before .before .before .before .before .before .before .before .before .before .before .before .pre .1) (not-false _ (c .before .before .before .before .before .before .before .before .before .if1 .left)) (sym (c .before .before .before .before .before .before .before .is-before .ensures) ∙ c .before .before .before .before .before .before .if2 .left) (sym (c .before .before .in-bounds .ensures) ∙ c .before .if5 .left) (c .refused4 .ensures)
+set-to-returns-6 t c = set-outside _ _ _ (c .before .before .before .before .before .before .before .before .before .before .before .before .before .before .before .args .text .now) (c .before .before .before .before .before .before .before .before .before .before .before .before .before .before .before .pre .1) (not-false _ (c .before .before .before .before .before .before .before .before .before .if1 .left)) (sym (c .before .before .before .before .before .before .before .is-before .ensures) ∙ c .before .before .before .before .before .before .if2 .left) (sym (c .before .before .in-bounds .ensures) ∙ c .before .if5 .left) (c .refused2 .ensures)
 
 pub +follow+good-file+good-page+newline+newpage+page-end+perform+set-to-spec : {M : Type 1} → statement M
 +follow+good-file+good-page+newline+newpage+page-end+perform+set-to-spec =
-    close μ-follow μ-good-file μ-good-page μ-newline μ-newpage μ-page-end μ-perform μ-set-to (λ t. follow-lts.spec (follow-calls t) (follow-at t)
-    follow.Post (λ c κs. search needs) (λ c κs. search needs) (follow-returns t) (follow-perform-requires t) (λ c κs. search needs)
-    (λ c κs. search needs) (λ c κs. search needs)
+    close μ-follow μ-good-file μ-good-page μ-newline μ-newpage μ-page-end μ-perform μ-set-to
+    (λ t. follow-lts.spec (follow-calls t) (follow-at t) follow.Post
+    (λ c κs. search needs)
+    (λ c κs. search needs)
+    (follow-returns t)
+    (follow-perform-requires t)
+    (λ c κs. search needs)
+    (λ c κs. search needs)
+    (λ c κs. search needs)
     (λ c. c .before .before .before .before .before .before .before .before .before .before .perform .kept .1 .1 .0)
     (λ c. c .before .before .before .before .before .before .before .before .before .before .perform .kept .1 .1 .1 .0)
-    (λ c. c .before .before .before .before .before .before .before .before .before .before .perform .kept .1 .1 .1 .1 .0) (follow-returns-2 t)
+    (λ c. c .before .before .before .before .before .before .before .before .before .before .perform .kept .1 .1 .1 .1 .0)
+    (follow-returns-2 t)
     (λ c. c .before .before .before .before .before .before .before .before .perform .kept .1 .1 .0)
     (λ c. c .before .before .before .before .before .before .before .before .perform .kept .1 .1 .1 .0)
-    (λ c. c .before .before .before .before .before .before .before .before .perform .kept .1 .1 .1 .1 .0) (follow-returns-3 t)) (λ t.
-    good-file-lts.spec (good-file-calls t) (good-file-at t) good-file.Post good-file-Inv-loop good-file-μ-loop (good-file-loop-holds t)
-    (λ c κs. search needs) (λ c κs. search needs) (good-file-signalled-requires t) (λ c κs. search needs) (λ c κs. search needs)
-    (λ c. c .before .before .before .before .before .before .before .before .loop .inv .1)
-    (λ c. c .before .before .before .before .before .before .before .before .loop .inv .2)
-    (λ c. c .before .before .before .before .before .before .before .before .loop .inv .3) (good-file-returns t) (λ c κs. search needs)
-    (λ c. c .before .before .before .before .before .before .before .before .loop .inv .1)
-    (λ c. c .before .before .before .before .before .before .before .before .loop .inv .2)
-    (λ c. c .before .before .before .before .before .before .before .before .loop .inv .3) (good-file-returns-2 t) (good-file-follow-requires t)
+    (λ c. c .before .before .before .before .before .before .before .before .perform .kept .1 .1 .1 .1 .0)
+    (follow-returns-3 t))
+    (λ t. good-file-lts.spec (good-file-calls t) (good-file-at t) good-file.Post good-file-Inv-loop good-file-μ-loop
+    (good-file-loop-holds t)
     (λ c κs. search needs)
-    (λ c. c .before .before .before .before .before .before .before .before .follow .kept .1 .1 .1 .0 ∙ c .before .before .before .before .before .before .before .before .before .before .before .before .before .before .before .before .before .before .loop .inv .1)
-    (λ c. c .before .before .before .before .before .before .before .before .follow .kept .1 .1 .1 .1 .0 ∙ c .before .before .before .before .before .before .before .before .before .before .before .before .before .before .before .before .before .before .loop .inv .2)
-    (λ c. c .before .before .before .before .before .before .before .before .follow .kept .1 .1 .1 .1 .1 .0 ∙ c .before .before .before .before .before .before .before .before .before .before .before .before .before .before .before .before .before .before .loop .inv .3)
-    (good-file-returns-3 t) (good-file-loop-less t) (good-file-loop-again t) (λ c κs. search needs) (λ c. c .before .before .before .loop .inv .1)
-    (λ c. c .before .before .before .loop .inv .2) (λ c. c .before .before .before .loop .inv .3) (good-file-returns-4 t)) (λ t. good-page-lts.spec
-    (good-page-calls t) (good-page-at t) good-page.Post good-page-Inv-loop good-page-μ-loop (good-page-loop-holds t) (good-page-good-file-requires t)
+    (λ c κs. search needs)
+    (good-file-signalled-requires t)
+    (λ c κs. search needs)
+    (λ c κs. search needs)
+    (λ c κs. search needs)
+    (λ c. c .before .before .before .before .before .before .before .before .before .loop .inv .1)
+    (λ c. c .before .before .before .before .before .before .before .before .before .loop .inv .2)
+    (λ c. c .before .before .before .before .before .before .before .before .before .loop .inv .3)
+    (good-file-returns t)
+    (λ c κs. search needs)
+    (λ c κs. search needs)
+    (λ c. c .before .before .before .before .before .before .before .before .before .before .loop .inv .1)
+    (λ c. c .before .before .before .before .before .before .before .before .before .before .loop .inv .2)
+    (λ c. c .before .before .before .before .before .before .before .before .before .before .loop .inv .3)
+    (good-file-returns-2 t)
+    (good-file-follow-requires t)
+    (λ c κs. search needs)
+    (λ c. c .before .before .before .before .before .before .before .before .follow .kept .1 .1 .1 .0 ∙ c .before .before .before .before .before .before .before .before .before .before .before .before .before .before .before .before .before .before .before .loop .inv .1)
+    (λ c. c .before .before .before .before .before .before .before .before .follow .kept .1 .1 .1 .1 .0 ∙ c .before .before .before .before .before .before .before .before .before .before .before .before .before .before .before .before .before .before .before .loop .inv .2)
+    (λ c. c .before .before .before .before .before .before .before .before .follow .kept .1 .1 .1 .1 .1 .0 ∙ c .before .before .before .before .before .before .before .before .before .before .before .before .before .before .before .before .before .before .before .loop .inv .3)
+    (good-file-returns-3 t)
+    (good-file-loop-less t)
+    (good-file-loop-again t)
+    (λ c κs. search needs)
+    (λ c. c .before .before .before .loop .inv .1)
+    (λ c. c .before .before .before .loop .inv .2)
+    (λ c. c .before .before .before .loop .inv .3)
+    (good-file-returns-4 t))
+    (λ t. good-page-lts.spec (good-page-calls t) (good-page-at t) good-page.Post good-page-Inv-loop good-page-μ-loop
+    (good-page-loop-holds t)
+    (good-page-good-file-requires t)
     (λ c κs. search needs)
     (λ c. c .before .before .before .before .before .before .before .before .good-file .kept .1 .1 .1 .0 ∙ c .before .before .before .before .before .before .before .before .before .before .before .before .loop .inv .1)
     (λ c. c .before .before .before .before .before .before .before .before .good-file .kept .1 .1 .1 .1 .0 ∙ c .before .before .before .before .before .before .before .before .before .before .before .before .loop .inv .2)
     (λ c. c .before .before .before .before .before .before .before .before .good-file .kept .1 .1 .1 .1 .1 .0 ∙ c .before .before .before .before .before .before .before .before .before .before .before .before .loop .inv .3)
-    (good-page-returns t) (good-page-page-ended-requires t)
+    (good-page-returns t)
+    (good-page-page-ended-requires t)
     (λ c. c .before .before .before .before .before .before .before .before .before .before .before .good-file .kept .1 .1 .1 .0 ∙ c .before .before .before .before .before .before .before .before .before .before .before .before .before .before .before .loop .inv .1)
     (λ c. c .before .before .before .before .before .before .before .before .before .before .before .good-file .kept .1 .1 .1 .1 .0 ∙ c .before .before .before .before .before .before .before .before .before .before .before .before .before .before .before .loop .inv .2)
     (λ c. c .before .before .before .before .before .before .before .before .before .before .before .good-file .kept .1 .1 .1 .1 .1 .0 ∙ c .before .before .before .before .before .before .before .before .before .before .before .before .before .before .before .loop .inv .3)
-    (good-page-returns-2 t) (good-page-page-end-requires t) (λ c κs. search needs)
+    (good-page-returns-2 t)
+    (good-page-page-end-requires t)
+    (λ c κs. search needs)
     (λ c. c .before .before .before .before .before .before .before .before .page-end .kept .1 .1 .0 ∙ c .before .before .before .before .before .before .before .before .before .before .before .before .before .before .before .before .before .before .before .before .before .before .before .good-file .kept .1 .1 .1 .0 ∙ c .before .before .before .before .before .before .before .before .before .before .before .before .before .before .before .before .before .before .before .before .before .before .before .before .before .before .before .loop .inv .1)
     (λ c. c .before .before .before .before .before .before .before .before .page-end .kept .1 .1 .1 .0 ∙ c .before .before .before .before .before .before .before .before .before .before .before .before .before .before .before .before .before .before .before .before .before .before .before .good-file .kept .1 .1 .1 .1 .0 ∙ c .before .before .before .before .before .before .before .before .before .before .before .before .before .before .before .before .before .before .before .before .before .before .before .before .before .before .before .loop .inv .2)
     (λ c. c .before .before .before .before .before .before .before .before .page-end .kept .1 .1 .1 .1 .0 ∙ c .before .before .before .before .before .before .before .before .before .before .before .before .before .before .before .before .before .before .before .before .before .before .before .good-file .kept .1 .1 .1 .1 .1 .0 ∙ c .before .before .before .before .before .before .before .before .before .before .before .before .before .before .before .before .before .before .before .before .before .before .before .before .before .before .before .loop .inv .3)
-    (good-page-returns-3 t) (good-page-loop-less t) (good-page-loop-again t)) (λ t. newline-lts.spec (newline-calls t) (newline-at t) newline.Post
-    newline-Inv-loop newline-μ-loop (newline-loop-holds t) (newline-good-page-requires t) (λ c κs. search needs)
+    (good-page-returns-3 t)
+    (good-page-loop-less t)
+    (good-page-loop-again t))
+    (λ t. newline-lts.spec (newline-calls t) (newline-at t) newline.Post newline-Inv-loop newline-μ-loop
+    (newline-loop-holds t)
+    (newline-good-page-requires t)
+    (λ c κs. search needs)
     (λ c. c .before .before .before .before .before .before .before .before .good-page .kept .1 .1 .1 .0 ∙ c .before .before .before .before .before .before .before .before .before .before .before .before .loop .inv .1)
     (λ c. c .before .before .before .before .before .before .before .before .good-page .kept .1 .1 .1 .1 .0 ∙ c .before .before .before .before .before .before .before .before .before .before .before .before .loop .inv .2)
     (λ c. c .before .before .before .before .before .before .before .before .good-page .kept .1 .1 .1 .1 .1 .0 ∙ c .before .before .before .before .before .before .before .before .before .before .before .before .loop .inv .3)
-    (newline-returns t) (λ c κs. search needs) (newline-add-moved t) (λ c κs. search needs) (λ c κs. search needs)
+    (newline-returns t)
+    (λ c κs. search needs)
+    (newline-add-moved t)
+    (λ c κs. search needs)
+    (λ c κs. search needs)
     (λ c. c .before .before .before .before .before .before .before .before .before .before .before .before .before .before .good-page .kept .1 .1 .1 .0 ∙ c .before .before .before .before .before .before .before .before .before .before .before .before .before .before .before .before .before .before .loop .inv .1)
     (λ c. c .before .before .before .before .before .before .before .before .before .before .before .before .before .before .good-page .kept .1 .1 .1 .1 .0 ∙ c .before .before .before .before .before .before .before .before .before .before .before .before .before .before .before .before .before .before .loop .inv .2)
     (λ c. c .before .before .before .before .before .before .before .before .before .before .before .before .before .before .good-page .kept .1 .1 .1 .1 .1 .0 ∙ c .before .before .before .before .before .before .before .before .before .before .before .before .before .before .before .before .before .before .loop .inv .3)
-    (newline-returns-2 t) (λ c κs. search needs) (newline-end-line-requires t) (λ c κs. search needs)
+    (newline-returns-2 t)
+    (λ c κs. search needs)
+    (newline-end-line-requires t)
+    (λ c κs. search needs)
     (λ c. c .before .before .before .before .before .end-line .kept .1 .0 ∙ c .before .before .before .before .before .before .before .before .before .before .before .before .before .before .before .before .before .before .before .before .before .before .good-page .kept .1 .1 .1 .0 ∙ c .before .before .before .before .before .before .before .before .before .before .before .before .before .before .before .before .before .before .before .before .before .before .before .before .before .before .loop .inv .1)
     (λ c. c .before .before .before .before .before .end-line .kept .1 .1 .0 ∙ c .before .before .before .before .before .before .before .before .before .before .before .before .before .before .before .before .before .before .before .before .before .before .good-page .kept .1 .1 .1 .1 .0 ∙ c .before .before .before .before .before .before .before .before .before .before .before .before .before .before .before .before .before .before .before .before .before .before .before .before .before .before .loop .inv .2)
     (λ c. c .before .before .before .before .before .before .before .before .before .before .before .before .before .before .before .before .before .before .before .before .before .before .good-page .kept .1 .1 .1 .1 .1 .0 ∙ c .before .before .before .before .before .before .before .before .before .before .before .before .before .before .before .before .before .before .before .before .before .before .before .before .before .before .loop .inv .3)
-    (newline-returns-3 t) (newline-loop-less t) (newline-loop-again t)) (λ t. newpage-lts.spec (newpage-calls t) (newpage-at t) newpage.Post
-    newpage-Inv-loop newpage-μ-loop (newpage-loop-holds t) (newpage-good-file-requires t) (λ c κs. search needs)
+    (newline-returns-3 t)
+    (newline-loop-less t)
+    (newline-loop-again t))
+    (λ t. newpage-lts.spec (newpage-calls t) (newpage-at t) newpage.Post newpage-Inv-loop newpage-μ-loop
+    (newpage-loop-holds t)
+    (newpage-good-file-requires t)
+    (λ c κs. search needs)
     (λ c. c .before .before .before .before .before .before .before .before .good-file .kept .1 .1 .1 .0 ∙ c .before .before .before .before .before .before .before .before .before .before .before .before .loop .inv .1)
     (λ c. c .before .before .before .before .before .before .before .before .good-file .kept .1 .1 .1 .1 .0 ∙ c .before .before .before .before .before .before .before .before .before .before .before .before .loop .inv .2)
     (λ c. c .before .before .before .before .before .before .before .before .good-file .kept .1 .1 .1 .1 .1 .0 ∙ c .before .before .before .before .before .before .before .before .before .before .before .before .loop .inv .3)
-    (newpage-returns t) (newpage-add-moved t) (λ c κs. search needs) (λ c κs. search needs)
+    (newpage-returns t)
+    (newpage-add-moved t)
+    (λ c κs. search needs)
+    (λ c κs. search needs)
     (λ c. c .before .before .before .before .before .before .before .before .before .before .before .before .before .before .good-file .kept .1 .1 .1 .0 ∙ c .before .before .before .before .before .before .before .before .before .before .before .before .before .before .before .before .before .before .loop .inv .1)
     (λ c. c .before .before .before .before .before .before .before .before .before .before .before .before .before .before .good-file .kept .1 .1 .1 .1 .0 ∙ c .before .before .before .before .before .before .before .before .before .before .before .before .before .before .before .before .before .before .loop .inv .2)
     (λ c. c .before .before .before .before .before .before .before .before .before .before .before .before .before .before .good-file .kept .1 .1 .1 .1 .1 .0 ∙ c .before .before .before .before .before .before .before .before .before .before .before .before .before .before .before .before .before .before .loop .inv .3)
-    (newpage-returns-2 t) (λ c κs. search needs) (newpage-end-page-requires t) (λ c κs. search needs)
+    (newpage-returns-2 t)
+    (λ c κs. search needs)
+    (newpage-end-page-requires t)
+    (λ c κs. search needs)
     (λ c. c .before .before .before .before .before .before .before .end-page .kept .1 .0 ∙ c .before .before .before .before .before .before .before .before .before .before .before .before .before .before .before .before .before .before .before .before .before .before .before .before .good-file .kept .1 .1 .1 .0 ∙ c .before .before .before .before .before .before .before .before .before .before .before .before .before .before .before .before .before .before .before .before .before .before .before .before .before .before .before .before .loop .inv .1)
     (λ c. c .before .before .before .before .before .before .before .end-page .kept .1 .1 .0 ∙ c .before .before .before .before .before .before .before .before .before .before .before .before .before .before .before .before .before .before .before .before .before .before .before .before .good-file .kept .1 .1 .1 .1 .0 ∙ c .before .before .before .before .before .before .before .before .before .before .before .before .before .before .before .before .before .before .before .before .before .before .before .before .before .before .before .before .loop .inv .2)
     (λ c. c .before .before .before .before .before .before .before .end-page .kept .1 .1 .1 .0 ∙ c .before .before .before .before .before .before .before .before .before .before .before .before .before .before .before .before .before .before .before .before .before .before .before .before .good-file .kept .1 .1 .1 .1 .1 .0 ∙ c .before .before .before .before .before .before .before .before .before .before .before .before .before .before .before .before .before .before .before .before .before .before .before .before .before .before .before .before .loop .inv .3)
-    (newpage-returns-3 t) (newpage-loop-less t) (newpage-loop-again t)) (λ t. page-end-lts.spec (page-end-calls t) (page-end-at t) page-end.Post
-    (λ c κs. search needs) (page-end-signalled-requires t) (λ c κs. search needs) (page-end-newpage-requires t) (page-end-follow-requires t)
+    (newpage-returns-3 t)
+    (newpage-loop-less t)
+    (newpage-loop-again t))
+    (λ t. page-end-lts.spec (page-end-calls t) (page-end-at t) page-end.Post
+    (λ c κs. search needs)
+    (page-end-signalled-requires t)
+    (λ c κs. search needs)
+    (page-end-newpage-requires t)
+    (page-end-follow-requires t)
     (λ c. c .before .before .before .before .before .before .newpage .kept .1 .1 .0)
     (λ c. c .before .before .before .before .before .before .newpage .kept .1 .1 .1 .0)
-    (λ c. c .before .before .before .before .before .before .newpage .kept .1 .1 .1 .1 .0) (page-end-returns t)
+    (λ c. c .before .before .before .before .before .before .newpage .kept .1 .1 .1 .1 .0)
+    (page-end-returns t)
     (λ c. c .before .before .before .before .before .before .follow .kept .1 .1 .1 .0)
     (λ c. c .before .before .before .before .before .before .follow .kept .1 .1 .1 .1 .0)
-    (λ c. c .before .before .before .before .before .before .follow .kept .1 .1 .1 .1 .1 .0) (page-end-returns-2 t)) (λ t. perform-lts.spec
-    (perform-calls t) (perform-at t) perform.Post (λ c κs. search needs) (perform-newline-requires t) (perform-newline-requires-2 t)
-    (λ c κs. search needs) (perform-newpage-requires t) (perform-newpage-requires-2 t) (λ c κs. search needs) (λ c κs. search needs)
-    (perform-set-to-requires t) (λ c κs. search needs) (λ c κs. search needs) (λ c κs. search needs)
+    (λ c. c .before .before .before .before .before .before .follow .kept .1 .1 .1 .1 .1 .0)
+    (page-end-returns-2 t))
+    (λ t. perform-lts.spec (perform-calls t) (perform-at t) perform.Post
+    (λ c κs. search needs)
+    (perform-newline-requires t)
+    (perform-newline-requires-2 t)
+    (λ c κs. search needs)
+    (perform-newpage-requires t)
+    (perform-newpage-requires-2 t)
+    (λ c κs. search needs)
+    (λ c κs. search needs)
+    (perform-set-to-requires t)
+    (λ c κs. search needs)
+    (λ c κs. search needs)
+    (λ c κs. search needs)
     (λ c. c .before .before .before .before .before .before .newline .kept .1 .1 .0)
     (λ c. c .before .before .before .before .before .before .newline .kept .1 .1 .1 .0)
-    (λ c. c .before .before .before .before .before .before .newline .kept .1 .1 .1 .1 .0) (perform-returns t)
+    (λ c. c .before .before .before .before .before .before .newline .kept .1 .1 .1 .1 .0)
+    (perform-returns t)
     (λ c. c .before .before .before .before .before .before .newline2 .kept .1 .1 .0)
     (λ c. c .before .before .before .before .before .before .newline2 .kept .1 .1 .1 .0)
-    (λ c. c .before .before .before .before .before .before .newline2 .kept .1 .1 .1 .1 .0) (perform-returns-2 t) (perform-returns-3 t)
+    (λ c. c .before .before .before .before .before .before .newline2 .kept .1 .1 .1 .1 .0)
+    (perform-returns-2 t)
+    (perform-returns-3 t)
     (λ c. c .before .before .before .before .before .before .newpage .kept .1 .1 .0)
     (λ c. c .before .before .before .before .before .before .newpage .kept .1 .1 .1 .0)
-    (λ c. c .before .before .before .before .before .before .newpage .kept .1 .1 .1 .1 .0) (perform-returns-4 t)
+    (λ c. c .before .before .before .before .before .before .newpage .kept .1 .1 .1 .1 .0)
+    (perform-returns-4 t)
     (λ c. c .before .before .before .before .before .before .newpage2 .kept .1 .1 .0)
     (λ c. c .before .before .before .before .before .before .newpage2 .kept .1 .1 .1 .0)
-    (λ c. c .before .before .before .before .before .before .newpage2 .kept .1 .1 .1 .1 .0) (perform-returns-5 t) (perform-returns-6 t)
+    (λ c. c .before .before .before .before .before .before .newpage2 .kept .1 .1 .1 .1 .0)
+    (perform-returns-5 t)
+    (perform-returns-6 t)
     (λ c. c .before .before .before .before .before .before .set-to .kept .1 .1 .0)
     (λ c. c .before .before .before .before .before .before .set-to .kept .1 .1 .1 .0)
-    (λ c. c .before .before .before .before .before .before .set-to .kept .1 .1 .1 .1 .0) (perform-returns-7 t) (perform-returns-8 t)
-    (perform-returns-9 t) (perform-returns-10 t)) λ t. set-to-lts.spec (set-to-calls t) (set-to-at t) set-to.Post (λ c κs. search needs)
-    (set-to-returns t) (λ c κs. search needs) (λ c κs. search needs) (λ c κs. search needs) (set-to-signalled-requires t) (λ c κs. search needs)
-    (λ c κs. search needs) (set-to-returns-2 t) (λ c κs. search needs) (set-to-returns-3 t) (set-to-perform-requires t)
+    (λ c. c .before .before .before .before .before .before .set-to .kept .1 .1 .1 .1 .0)
+    (perform-returns-7 t)
+    (perform-returns-8 t)
+    (perform-returns-9 t)
+    (perform-returns-10 t))
+    (λ t. set-to-lts.spec (set-to-calls t) (set-to-at t) set-to.Post
+    (λ c κs. search needs)
+    (set-to-returns t)
+    (λ c κs. search needs)
+    (λ c κs. search needs)
+    (λ c κs. search needs)
+    (set-to-signalled-requires t)
+    (λ c κs. search needs)
+    (λ c κs. search needs)
+    (set-to-returns-2 t)
+    (λ c κs. search needs)
+    (set-to-returns-3 t)
+    (set-to-perform-requires t)
     (λ c. c .before .before .before .before .before .before .perform .kept .1 .1 .0)
     (λ c. c .before .before .before .before .before .before .perform .kept .1 .1 .1 .0)
-    (λ c. c .before .before .before .before .before .before .perform .kept .1 .1 .1 .1 .0) (set-to-returns-4 t) (set-to-in-bounds-requires t)
-    (λ c κs. search needs) (λ c κs. search needs) (λ c κs. search needs) (λ c. search needs) (λ c. search needs) (set-to-returns-5 t)
-    (λ c. search needs) (λ c. search needs) (set-to-returns-6 t)
+    (λ c. c .before .before .before .before .before .before .perform .kept .1 .1 .1 .1 .0)
+    (set-to-returns-4 t)
+    (set-to-in-bounds-requires t)
+    (λ c κs. search needs)
+    (λ c κs. search needs)
+    (λ c κs. search needs)
+    (λ c. search needs)
+    (λ c. search needs)
+    (set-to-returns-5 t)
+    (λ c. search needs)
+    (λ c. search needs)
+    (set-to-returns-6 t))

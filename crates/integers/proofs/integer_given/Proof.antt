@@ -22,7 +22,7 @@ signalled-requires : tie.Need-signalled-requires
 signalled-requires c κs = events-small _ _ _ (c .before .before .before .before .before .before .pre)
 
 returns-2 : tie.Need-returns-2
-returns-2 c = nothing-refused (c .before .refused .ensures) (c .found-nothing .ensures) ∙ sym (given-refused (c .before .before .before .before .before .before .before .before .before .before .before .args .row .now) (c .before .before .before .before .before .before .before .before .before .before .before .args .minus) (c .before .before .before .before .before .before .before .before .before .before .before .args .value) (state (c .before .before .before .before .before .before .before .before .before .before .before .args .run) (c .before .before .before .before .before .before .before .before .before .before .before .args .lines .now) (c .before .before .before .before .before .before .before .before .before .before .before .args .pages .now)) (c .before .before .before .before .before .before .before .before .before .before .before .args .text .now) (omega (arith, c .before .before .before .before .before .before .if1 .left)) (record { word = c .before .before .before .before .before .next-word .ensures; kind = c .before .before .before .kind-of .ensures; next = c .before .before .before .before .signalled .ensures }) (c .before .before .if2 .taken))
+returns-2 c = nothing-refused (c .before .refused-at .ensures) (c .found-nothing .ensures) ∙ sym (given-refused (c .before .before .before .before .before .before .before .before .before .before .before .args .row .now) (c .before .before .before .before .before .before .before .before .before .before .before .args .minus) (c .before .before .before .before .before .before .before .before .before .before .before .args .value) (state (c .before .before .before .before .before .before .before .before .before .before .before .args .run) (c .before .before .before .before .before .before .before .before .before .before .before .args .lines .now) (c .before .before .before .before .before .before .before .before .before .before .before .args .pages .now)) (c .before .before .before .before .before .before .before .before .before .before .before .args .text .now) (omega (arith, c .before .before .before .before .before .before .if1 .left)) (record { word = c .before .before .before .before .before .next-word .ensures; kind = c .before .before .before .kind-of .ensures; next = c .before .before .before .before .signalled .ensures }) (c .before .before .if2 .taken))
 
 follow-requires : tie.Need-follow-requires
 follow-requires c κs = from-answer (from-start (c .before .before .before .before .before .before .before .before .before .before .before .before .pre)) (record { word = c .before .before .before .before .before .before .next-word .ensures; kind = c .before .before .before .before .kind-of .ensures; next = c .before .before .before .before .before .signalled .ensures }) (c .before .before .before .if2 .left) (Action.answered true (mendingOf (c .before .before .before .before .before .before .next-word .result))) .0

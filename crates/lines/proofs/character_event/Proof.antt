@@ -13,7 +13,7 @@ signalled-requires : tie.Need-signalled-requires
 signalled-requires c κs = events-small _ _ _ (c .before .before .before .before .before .pre .0)
 
 returns : tie.Need-returns
-returns c = event-refuses _ _ _ (c .before .before .before .before .before .before .before .before .before .args .text .now) (record { word = c .before .before .before .before .next-word .ensures; kind = c .before .before .kind-of .ensures; next = c .before .before .before .signalled .ensures }) (c .before .if1 .taken) _ (c .refused .ensures)
+returns c = event-refuses _ _ _ (c .before .before .before .before .before .before .before .before .before .args .text .now) (record { word = c .before .before .before .before .next-word .ensures; kind = c .before .before .kind-of .ensures; next = c .before .before .before .signalled .ensures }) (c .before .if1 .taken) _ (c .refused-at .ensures)
 
 suggestion-requires : tie.Need-suggestion-requires
 suggestion-requires c κs = word-suggests (c .before .before .before .before .before .before .before .before .args .row .now) (c .before .before .before .before .before .before .before .before .args .run) (c .before .before .before .before .before .before .before .before .pre .1) (c .before .before .before .before .before .before .before .before .args .b) (omega (arith, c .before .before .before .before .before .before .before .before .good)) (c .before .before .before .next-word .ensures)

@@ -10,6 +10,9 @@ use Rattle.numbers.proofs.in_numbers.Tie as tie
 enum-known-given : tie.Need-enum-known-given
 enum-known-given c = search needs
 
+event-number-requires : tie.Need-event-number-requires
+event-number-requires c κs = search needs
+
 result-of-requires : tie.Need-result-of-requires
 result-of-requires c κs = search needs
 
@@ -29,7 +32,7 @@ result-of-requires-3 : tie.Need-result-of-requires-3
 result-of-requires-3 c κs = search needs
 
 returns : tie.Need-returns
-returns c = says-nothing (c .before .before .before .before .args .reply) _ (c .before .before .given .given .1) (c .result-of .ensures)
+returns c = says-nothing (c .before .before .before .before .before .args .reply) _ (c .before .before .before .given .given .1) (c .before .event-number .ensures) (c .result-of .ensures)
 
 returns-2 : tie.Need-returns-2
 returns-2 c = says-character (c .before .before .before .before .args .reply) _ (c .before .before .given2 .given .1) (read-value (omega (arith, c .before .known-told2 .given))) (c .result-of2 .ensures)
@@ -42,6 +45,7 @@ in-numbers-spec =
     tie.close
     (tie.spec
     enum-known-given
+    event-number-requires
     result-of-requires
     enum-known-given-2
     cast-result-of

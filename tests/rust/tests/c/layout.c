@@ -41,11 +41,13 @@ static void results(void) {
     FIELD(transput_result, number);
     FIELD(transput_result, stop);
     FIELD(transput_result, given);
+    FIELD(transput_result, event);
     FIELD(transput_result, value);
     FIELD(transput_result, events);
     FIELD(transput_result, taken);
     FIELD(transput_result, count);
     FIELD(transput_result, end);
+    FIELD(transput_result, signalled);
     STRUCT(transput_view);
     FIELD(transput_view, number);
     FIELD(transput_view, marker);
@@ -75,12 +77,20 @@ static void numbers(void) {
     CONSTANT(TRANSPUT_NO_RIGHT);
     CONSTANT(TRANSPUT_NO_MOOD);
     CONSTANT(TRANSPUT_OUT_OF_RANGE);
-    CONSTANT(TRANSPUT_END_UNMENDED);
     CONSTANT(TRANSPUT_BAD_CHARACTER);
     CONSTANT(TRANSPUT_BAD_VALUE);
     CONSTANT(TRANSPUT_LINE_TOO_SHORT);
     CONSTANT(TRANSPUT_JUMPED);
     CONSTANT(TRANSPUT_OUTPUT_TOO_SHORT);
+    CONSTANT(TRANSPUT_LOGICAL_END_UNMENDED);
+    CONSTANT(TRANSPUT_PHYSICAL_END_UNMENDED);
+    CONSTANT(TRANSPUT_EVENT_NONE);
+    CONSTANT(TRANSPUT_EVENT_LOGICAL_END);
+    CONSTANT(TRANSPUT_EVENT_PHYSICAL_END);
+    CONSTANT(TRANSPUT_EVENT_PAGE_END);
+    CONSTANT(TRANSPUT_EVENT_LINE_END);
+    CONSTANT(TRANSPUT_EVENT_CHARACTER);
+    CONSTANT(TRANSPUT_EVENT_VALUE);
 }
 
 static void stops_and_given(void) {

@@ -147,9 +147,11 @@ static void print_stage(void) {
 }
 
 static void print_result(transput_result result) {
-    printf("number %d stop %d given %d value %" PRId32 "\n", result.number, result.stop, result.given, result.value);
+    printf("number %d stop %d event %d\n", result.number, result.stop, result.event);
+    printf("given %d value %" PRId32 "\n", result.given, result.value);
     printf("events %zu taken %zu count %zu\n", result.events, result.taken, result.count);
     print_position("end", result.end);
+    print_position("signalled", result.signalled);
 }
 
 static void print_differences(const char *name, transput_differences differences) {
