@@ -30,9 +30,23 @@ impl Work<'_> {
             character: 1,
             ..end
         };
-        if position > end || (!self.file.rights.set && line_of_end > position) {
+        if position > end {
             *self.end = position;
+        } else if !self.file.rights.set && line_of_end > position {
+            *self.end = position;
+            if self.file.rights.compress {
+                self.restore(position);
+            }
         }
+    }
+
+    /// The end went back to a place: the lengths of its line, of its page, and of all later ones are as established.
+    #[cold]
+    fn restore(&mut self, end: Position) {
+        let shape = self.file.shape;
+        let first = (end.page - 1) * shape.lines + (end.line - 1);
+        self.lines[first..].fill(shape.characters as u8);
+        self.pages[end.page - 1..].fill(shape.lines as u8);
     }
 
     #[inline(always)]

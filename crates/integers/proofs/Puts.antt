@@ -1,5 +1,5 @@
 -- The text whole(v, 11) put in its room. Assumes nothing.
-use Prim.Native.Nat.{ℕ, _+_, _≤_, _<_}
+use Prim.Native.Nat.{ℕ, _<_}
 use native.Mathlib.Omega.{arith}
 use mathlib.Core.Path.{_≡_, refl, sym, ap, subst, _∙_}
 use mathlib.Core.List.{List}
@@ -8,14 +8,14 @@ use lib.ListN.{length, set}
 use lib.Seq.{sets}
 use Rattle.rules.specs.declared.Run.{Run}
 use Rattle.rules.specs.declared.Outcome.{Outcome}
-use Rattle.rules.specs.Book.{characterIndex, State, onRun, here, shapeOf}
+use Rattle.rules.specs.Book.{characterIndex, State, state, here, shapeOf}
 use Rattle.rules.specs.Step.{Ending, done, ends, outcome, doneBy}
 use Rattle.rules.specs.Steps.{roomFor, execute}
 use Rattle.rules.specs.Ready.{Ready, Valid}
 use Rattle.rules.specs.Whole.{wholeText}
 use Rattle.rules.specs.Calls.{putText}
 use Rattle.laws.specs.Runs.{storedBy}
-use Rattle.laws.proofs.Ways.{outcomeAt, done-of}
+use Rattle.laws.proofs.Ways.{done-of}
 use Rattle.laws.proofs.Numbers.{whole-printable, eleven, text-ends, text-here, text-after, blank-ready}
 
 module _ (row : List ℕ) (v : ℤ) (s : State) (t : List ℕ) (rd : Ready row (roomFor 11) s) where
@@ -39,16 +39,16 @@ module _ (row : List ℕ) (v : ℤ) (s : State) (t : List ℕ) (rd : Ready row (
     pub room-valid : Valid b
     room-valid = done-of row (roomFor 11) t rd h .valid
 
-    stored-as : (x : Run) {y : Run} → y ≡ storedBy 11 x → y ≡ storedBy (length text) x
-    stored-as x e = e ∙ ap (λ (n : ℕ). storedBy n x) (sym (eleven v))
+    stored-as : (s : State) {u : State} → u ≡ storedBy 11 s → u ≡ storedBy (length text) s
+    stored-as s e = e ∙ ap (λ (n : ℕ). storedBy n s) (sym (eleven v))
 
-    pub put-here : here b .character ≡ 1 → {y : Run} {t′ : List ℕ} → y ≡ storedBy 11 (b .run) → t′ ≡ sets t₁ (characterIndex (shapeOf b) (here b)) text → {x : Outcome} → x ≡ doneBy y → outcomeAt x b t′ ≡ putText row text s t
-    put-here c hy ht hx = text-here row text s t as-long (whole-printable v (pos 11)) some f c (stored-as (b .run) hy) ht hx
+    pub put-here : here b .character ≡ 1 → {y : Run} {t′ l′ p′ : List ℕ} → state y l′ p′ ≡ storedBy 11 b → t′ ≡ sets t₁ (characterIndex (shapeOf b) (here b)) text → {x : Outcome} → x ≡ doneBy y → outcome x t′ l′ p′ ≡ putText row text s t
+    put-here c hu ht hx = text-here row text s t as-long (whole-printable v (pos 11)) some f c (stored-as b hu) ht hx
 
-    module _ (c : here b .character ≡ 1 → ⊥) {y : Run} (hy : y ≡ storedBy 1 (b .run)) where
-      pub blank-valid : Valid (onRun b y)
-      blank-valid = blank-ready row text s t as-long (whole-printable v (pos 11)) some f c hy refl .valid
+    module _ (c : here b .character ≡ 1 → ⊥) {u : State} (hu : u ≡ storedBy 1 b) where
+      pub blank-valid : Valid u
+      blank-valid = blank-ready row text s t as-long (whole-printable v (pos 11)) some f c hu refl .valid
 
-      pub put-after : {t₂ : List ℕ} → t₂ ≡ set t₁ (characterIndex (shapeOf b) (here b)) 32 → {z : Run} {t′ : List ℕ} → z ≡ storedBy 11 y → t′ ≡ sets t₂ (characterIndex (y .file .shape) (y .file .position)) text → {x : Outcome} → x ≡ doneBy z
-          → outcomeAt x b t′ ≡ putText row text s t
-      put-after ht hz ht′ hx = text-after row text s t as-long (whole-printable v (pos 11)) some f c hy ht (stored-as y hz) ht′ hx
+      pub put-after : {t₂ : List ℕ} → t₂ ≡ set t₁ (characterIndex (shapeOf b) (here b)) 32 → {z : Run} {t′ l′ p′ : List ℕ} → state z l′ p′ ≡ storedBy 11 u → t′ ≡ sets t₂ (characterIndex (shapeOf u) (here u)) text → {x : Outcome} → x ≡ doneBy z
+          → outcome x t′ l′ p′ ≡ putText row text s t
+      put-after ht hz ht′ hx = text-after row text s t as-long (whole-printable v (pos 11)) some f c hu ht (stored-as u hz) ht′ hx

@@ -67,11 +67,11 @@ pub fn room_for_integer(
 }
 
 // The text of an integer at a position with room for it.
-pub fn put_text(run: Run, v: i32, text: &mut [u8]) -> Run
+pub fn put_text(run: Run, v: i32, text: &mut [u8], lines: &mut [u8], pages: &mut [u8]) -> Run
     requires { ⌜ Small (run .file .shape) (run .file .position .page) (run .file .position .line) ⌝ }
     requires { ⌜ (1 ≤ run .file .position .character) × (run .file .position .character ≤ 256) ⌝ }
     requires { ⌜ natAbs v < 2147483648 ⌝ }
-    ensures { λ r. ⌜ (r ≡ storedBy 11 run) × (now (text .exit) ≡ sets (now (text .entry)) (characterIndex (run .file .shape) (run .file .position)) (wholeText v (pos 11))) ⌝ }
+    ensures { λ r. ⌜ (state r (now (lines .exit)) (now (pages .exit)) ≡ storedBy 11 (state run (now (lines .entry)) (now (pages .entry)))) × (now (text .exit) ≡ sets (now (text .entry)) (characterIndex (run .file .shape) (run .file .position)) (wholeText v (pos 11))) ⌝ }
 {
     let shape = run.file.shape;
     let at = places::character_index(
@@ -81,7 +81,7 @@ pub fn put_text(run: Run, v: i32, text: &mut [u8]) -> Run
         run.file.position.character,
     );
     whole::put_whole(text, at, v);
-    stores::stored(run, 11)
+    stores::stored(run, 11, lines, pages)
 }
 
 // "Put an integer: the text is whole(value, 11). .. Then a blank when c is not 1, and the text."
@@ -103,11 +103,11 @@ pub fn put_integer(
     }
     let at = room.run;
     if at.file.position.character == 1 {
-        let on = put_text(at, v, text);
+        let on = put_text(at, v, text, lines, pages);
         return running::finish(on);
     }
-    let blank = stores::store_character(at, text, 32);
-    let on = put_text(blank, v, text);
+    let blank = stores::store_character(at, text, lines, pages, 32);
+    let on = put_text(blank, v, text, lines, pages);
     running::finish(on)
 }
 

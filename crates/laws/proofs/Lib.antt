@@ -1,10 +1,12 @@
 pub mod Order
+pub mod Restored
 pub mod Validity
 pub mod Progress
 pub mod Walk
 pub mod Unfolding
 pub mod Entry
 pub mod Ways
+pub mod Begun
 pub mod Cases
 pub mod Lines
 pub mod Runs

@@ -1,28 +1,24 @@
 -- The laws of good line, put of a character, space and set char number in the shape in which code meets them. Assumes nothing.
 use Prim.Native.Nat.{ℕ, zero, suc, _+_, _-_, _<_, _≤_}
 use native.Mathlib.Omega.{arith}
-use native.Mathlib.Numerals.{add-one}
-use mathlib.Core.Path.{_≡_, refl, sym, ap, subst, _∙_}
+use mathlib.Core.Path.{_≡_, refl, sym, ap, _∙_}
 use mathlib.Core.List.{List}
-use mathlib.Core.Bool.{Bool, true, false, not, _||_}
-use lib.Dec.{ltb, eqb, leb}
-use lib.ListN.{length, set}
+use mathlib.Core.Bool.{Bool, true, false, _||_}
+use lib.Dec.{ltb, eqb}
+use lib.ListN.{set}
 use borrow.Author.Tests.{eq-eqb, ne-eqb, lt-ltb, le-ltb, eqb-true, eqb-false}
-use Rattle.rules.specs.declared.Position.{Position}
 use Rattle.rules.specs.declared.Run.{Run}
 use Rattle.rules.specs.declared.Event as code
 use Rattle.rules.specs.declared.Event.the-variants.{LineEnd, Character}
 use Rattle.rules.specs.declared.Outcome.{Outcome}
-use Rattle.rules.specs.Book.{choose, place, before, within, nextCharacter, previousCharacter, characterIndex, State, state, onRun, here, endOf, shapeOf, rightsOf, lineHere, withEnd, movedTo, mendingOf, suggested, Event, lineEnd, Answer, kindOf, nextLine, inMood}
-use Rattle.rules.specs.Step.{Ending, Out, done, ends, Step, _>>=_, pure, halt, refuse, refuseAt, refusal, stopped, look, change, branch, test, need, outcomeGiving, outcome, doneBy, refusedBy, refusedAt, stoppedBy, fileEnded, pageEnded, lineEnded, pass, signal, store, endAfter, backspace, onEndLine}
-use Rattle.rules.specs.Steps.{Action, goodFile, goodPage, goodLine, atLineEnd, newline, perform, answered, putCharacter, setCharacterNumber, printable, backspaces, signals, signalWhile, upon, goodLineBody, atLineEndBody, characterEvent, putCharacterBody, spaceStep, setCharacterNumberBody, body, stage, measure, execute}
+use Rattle.rules.specs.Book.{place, before, within, nextCharacter, previousCharacter, characterIndex, State, state, onRun, here, endOf, shapeOf, lineHere, movedTo, mendingOf, suggested, Event, lineEnd, Answer, kindOf, nextLine, inMood}
+use Rattle.rules.specs.Step.{Ending, Out, done, ends, _>>=_, pure, halt, refuseAt, stopped, look, change, branch, test, need, outcomeGiving, outcome, doneBy, refusedBy, refusedAt, stoppedBy, fileEnded, pageEnded, lineEnded, store, onEndLine}
+use Rattle.rules.specs.Steps.{goodFile, goodPage, goodLine, atLineEnd, newline, perform, answered, putCharacter, setCharacterNumber, printable, backspaces, signals, signalWhile, upon, goodLineBody, atLineEndBody, characterEvent, putCharacterBody, spaceStep, setCharacterNumberBody, body, measure, execute}
 use Rattle.laws.specs.Follow.{followed}
-use Rattle.laws.specs.Runs.{onBy, storedBy}
-use Rattle.laws.proofs.Validity.{Valid, Near, near-at}
-use Rattle.laws.proofs.Progress.{Gain, Ready, FileGood, PageGood, LineGood, Done, Site, site-lower, gain-less, gain-trans, From, from-start, from-gain, from-trans, heard, answer}
-use Rattle.laws.proofs.Walk.{Closed, at-store, post-done}
+use Rattle.laws.specs.Runs.{storedBy}
+use Rattle.laws.proofs.Progress.{Ready, LineGood, Done, Site, site-lower, gain-less, From, from-gain, heard, answer}
 use Rattle.laws.proofs.Unfolding.{On, unfold-execute, space-post, event-post}
-use Rattle.laws.proofs.Ways.{bind-done, bind-ends, same-then, branch-true, branch-false, test-true, test-false, need-true, need-false, look-then, signal-then, outcomeAt, outcome-is, with-value, post-done-of, done-of, Asked, is-false, is-jump, is-true, after-event, from-lower, from-default, on-default, from-answer, on-answer, from-later, signals-default, signals-followed, followed-done, followed-on, while-stays}
+use Rattle.laws.proofs.Ways.{bind-done, bind-ends, same-then, branch-true, branch-false, test-true, test-false, need-true, need-false, look-then, signal-then, outcomeAt, outcome-is, with-value, post-done-of, done-of, Asked, is-false, is-jump, is-true, after-event, from-lower, from-later, signals-default, signals-followed}
 use Rattle.laws.proofs.Cases.{law-goodPage, held-stays, goodFile-stays, back-done, newline-page, newline-moves, follow-perform, follow-done, perform-newline-reading}
 
 -- ---- good line, and the event at a line's end
@@ -108,9 +104,13 @@ module _ (row : List ℕ) (r : Bool) (c : ℕ) {b : State} (t : List ℕ) {w k :
 
 -- ---- put of a character: b is what good line gave
 
-pub stored-is : (s : State) (t : List ℕ) (c : ℕ) {y : Run} {t′ : List ℕ} → y ≡ storedBy 1 (s .run) → t′ ≡ set t (characterIndex (shapeOf s) (here s)) c → done (tt {0}) (onRun s y) t′ ≡ store c s t
+pub stored-is : (s : State) (t : List ℕ) (c : ℕ) → store c s t ≡ done tt (storedBy 1 s) (set t (characterIndex (shapeOf s) (here s)) c)
 unfolding store
-stored-is s t c hy ht = rw (hy, ht)
+stored-is s t c = refl
+
+-- what the code leaves
+stored-as : (s : State) (t : List ℕ) (c : ℕ) {y : Run} {t′ l′ p′ : List ℕ} {x : Outcome} → state y l′ p′ ≡ storedBy 1 s → t′ ≡ set t (characterIndex (shapeOf s) (here s)) c → x ≡ doneBy y → outcome x t′ l′ p′ ≡ store c s t
+stored-as s t c {t′ = t′} {l′ = l′} {p′ = p′} hu ht hx = ap (λ (o : Outcome). outcome o t′ l′ p′) hx ∙ ap (λ (u : State). done tt u t′) hu ∙ ap (λ (v : List ℕ). done tt (storedBy 1 s) v) ht ∙ sym (stored-is s t c)
 
 -- a state that the code's loop has come to, with the character that is now tried
 pub record Trying (row : List ℕ) (c₀ : ℕ) (s₀ : State) (t₀ : List ℕ) (c : ℕ) (s : State) (t : List ℕ) : Type 0 where
@@ -136,9 +136,9 @@ module _ (row : List ℕ) (c : ℕ) (s : State) (t : List ℕ) (rd : Ready row (
     pub put-from : From row (putCharacter c) s b
     put-from = from-gain b rd (put-done .valid) (put-done .took) (put-done .claim .0)
 
-    pub put-stores : printable c ≡ true → {y : Run} {t′ : List ℕ} {x : Outcome} → y ≡ storedBy 1 (b .run) → t′ ≡ set t₁ (characterIndex (shapeOf b) (here b)) c → x ≡ doneBy y → outcomeAt x b t′ ≡ execute row (putCharacter c) s t
+    pub put-stores : printable c ≡ true → {y : Run} {t′ l′ p′ : List ℕ} {x : Outcome} → state y l′ p′ ≡ storedBy 1 b → t′ ≡ set t₁ (characterIndex (shapeOf b) (here b)) c → x ≡ doneBy y → outcome x t′ l′ p′ ≡ execute row (putCharacter c) s t
     unfolding putCharacterBody
-    put-stores e {y} {t′} hy ht hx = outcome-is b t′ hx ∙ stored-is b t₁ c hy ht ∙ sym (law-put ∙ bind-done _ _ s t f ∙ branch-true _ _ b t₁ e)
+    put-stores e hu ht hx = stored-as b t₁ c hu ht hx ∙ sym (law-put ∙ bind-done _ _ s t f ∙ branch-true _ _ b t₁ e)
 
     module _ (e : printable c ≡ false) where
       law-tried : execute row (putCharacter c) s t ≡ (characterEvent row (execute row) false 32 >>= λ c. execute row (putCharacter c)) b t₁
@@ -173,9 +173,9 @@ module _ (row : List ℕ) (r : Bool) (s : State) (t : List ℕ) where
     unfolding spaceStep change
     space-passes e i h = outcome-is b t₁ (h ∙ ap doneBy i) ∙ sym (bind-done _ _ s t f ∙ test-true _ _ _ b t₁ e)
 
-    pub space-stores : (r || before (here b) (endOf b)) ≡ false → {y : Run} {t′ : List ℕ} {x : Outcome} → y ≡ storedBy 1 (b .run) → t′ ≡ set t₁ (characterIndex (shapeOf b) (here b)) 32 → x ≡ doneBy y → outcomeAt x b t′ ≡ spaceStep row (execute row) r s t
+    pub space-stores : (r || before (here b) (endOf b)) ≡ false → {y : Run} {t′ l′ p′ : List ℕ} {x : Outcome} → state y l′ p′ ≡ storedBy 1 b → t′ ≡ set t₁ (characterIndex (shapeOf b) (here b)) 32 → x ≡ doneBy y → outcome x t′ l′ p′ ≡ spaceStep row (execute row) r s t
     unfolding spaceStep
-    space-stores e {y} {t′} hy ht hx = outcome-is b t′ hx ∙ stored-is b t₁ 32 hy ht ∙ sym (bind-done _ _ s t f ∙ test-false _ _ _ b t₁ e)
+    space-stores e hu ht hx = stored-as b t₁ 32 hu ht hx ∙ sym (bind-done _ _ s t f ∙ test-false _ _ _ b t₁ e)
 
 -- ---- set char number
 

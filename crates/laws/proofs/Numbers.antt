@@ -3,33 +3,32 @@ use Prim.Native.Nat.{ℕ, zero, suc, _+_, _*_, _-_, _/_, _%_, _<_, _≤_}
 use native.Mathlib.Omega.{arith}
 use mathlib.Core.Path.{_≡_, refl, sym, ap, subst, _∙_}
 use mathlib.Core.List.{List, [], _∷_, _++_}
-use mathlib.Core.Bool.{Bool, true, false, not, _&&_, _||_}
+use mathlib.Core.Bool.{Bool, true, false, not, _||_}
 use lib.Dec.{leb, ltb, eqb}
 use lib.IntN.{ℤ, pos, negsuc}
 use lib.ListN.{length, set, getD, replicate, length-append, length-replicate}
 use lib.Seq.{sets}
-use borrow.Author.Tests.{le-leb, lt-leb, leb-true, leb-false, ltb-true, eq-eqb, ne-eqb, not-false}
+use borrow.Author.Tests.{le-leb, lt-leb, leb-true, leb-false, ltb-true, eq-eqb, ne-eqb}
 use Rattle.rules.specs.declared.Position.{Position}
 use Rattle.rules.specs.declared.Run.{Run}
 use Rattle.rules.specs.declared.Event.the-variants as code
 use Rattle.rules.specs.declared.Outcome.{Outcome}
-use Rattle.rules.specs.Book.{choose, within, nextCharacter, characterIndex, State, onRun, here, shapeOf, lineHere, movedTo, inMood, Event, Mending, suggest, Answer, isFalse, jump, isTrue, suggested}
-use Rattle.rules.specs.Step.{Ending, Out, done, ends, Step, _>>=_, andThen, pure, change, halt, refuse, refuseAt, refusal, refusalAt, attempt, test, need, branch, pass, look, characterHere, outcomeGiving, outcome, doneBy, refusedBy}
-use Rattle.rules.specs.Steps.{Action, perform, answered, goodLine, atLineEnd, putCharacter, roomFor, passBlanks, moreDigits, printable, digit, fitsHere, isStop, signals, signalWhile, upon, performBody, answeredBody, characterEvent, roomForBody, passBlanksBody, moreDigitsBody, body, stage, measure, execute}
-use Rattle.rules.specs.Whole.{digitsUpTo, digits, signed, padded, wholeText}
-use Rattle.rules.specs.Calls.{Value, nothing, anInteger, putCharacters, putText, firstDigit, withSign, integerGiven, signBefore, takeInteger}
+use Rattle.rules.specs.Book.{choose, within, nextCharacter, characterIndex, State, state, onRun, here, shapeOf, lineHere, movedTo, inMood, Event, Mending, suggest, Answer, isFalse, jump, isTrue, suggested}
+use Rattle.rules.specs.Step.{Ending, Out, done, ends, Step, _>>=_, andThen, pure, change, halt, refuseAt, refusalAt, test, branch, pass, look, characterHere, outcomeGiving, outcome, doneBy, refusedBy}
+use Rattle.rules.specs.Steps.{Action, perform, answered, goodLine, atLineEnd, putCharacter, roomFor, passBlanks, moreDigits, printable, digit, fitsHere, isStop, signals, signalWhile, upon, performBody, answeredBody, characterEvent, roomForBody, passBlanksBody, moreDigitsBody, body, stage, execute}
+use Rattle.rules.specs.Whole.{digitsUpTo, signed, padded, wholeText}
+use Rattle.rules.specs.Calls.{nothing, anInteger, putCharacters, putText, firstDigit, withSign, integerGiven, signBefore, takeInteger}
 use Rattle.laws.specs.Runs.{storedBy, every}
 use Rattle.laws.specs.Capped.{capped, withCap}
 use Rattle.laws.specs.Follow.{followed}
 use Rattle.laws.proofs.Order.{split}
-use Rattle.laws.proofs.Validity.{Valid, Near, near-at}
-use Rattle.laws.proofs.Progress.{Gain, Ready, LineGood, Done, Site, heard, answer, heard-took, heard-gain, site-later, site-lower, ready-as, ready-on, gain-less, gain-trans, From, from-start, from-gain}
-use Rattle.laws.proofs.Walk.{Ended, Post, At, at-pure, at-change, at-halt, at-bind, at-branch, at-weak, at-first, at-look, at-character, ended-here, ended-on, pass-gain}
+use Rattle.laws.proofs.Validity.{Valid}
+use Rattle.laws.proofs.Progress.{Gain, Ready, LineGood, Done, heard, answer, heard-took, heard-gain, site-later, site-lower, ready-as, ready-on, gain-less, gain-trans, From, from-gain}
+use Rattle.laws.proofs.Walk.{Ended, Post, at-pure, at-change, at-halt, at-bind, at-branch, at-weak, at-first, at-look, at-character, ended-here, ended-on}
 use Rattle.laws.proofs.Unfolding.{On, unfold-execute, execute-post}
-use Rattle.laws.proofs.Ways.{bind-done, bind-ends, attempt-done, attempt-ends, branch-true, branch-false, test-true, test-false, need-true, need-false, change-then, look-then, signal-then, outcomeAt, outcome-is, post-done-of, done-of, with-value, same-then, Asked, signals-default, signals-followed, from-lower, while-stays, while-ends, while-again}
-use Rattle.laws.proofs.Lines.{stored-is}
-use Rattle.laws.proofs.Runs.{All, none, also, all-of, both-true, any-character, put-one, put-run, good-on, one-ready}
-use Rattle.laws.proofs.Gets.{character-then, passed, passed-ready, passed-on, passed-event, post-at, on-further}
+use Rattle.laws.proofs.Ways.{bind-done, bind-ends, attempt-done, attempt-ends, branch-true, branch-false, test-true, test-false, need-true, need-false, change-then, look-then, signal-then, outcomeAt, outcome-is, done-of, with-value, Asked, signals-default, signals-followed, from-lower, while-stays, while-ends, while-again}
+use Rattle.laws.proofs.Runs.{All, also, all-of, both-true, any-character, one-stored, put-run, line-stays, good-on, one-ready}
+use Rattle.laws.proofs.Gets.{character-then, passed, passed-on, passed-event, post-at}
 
 -- ---- room for a text of w characters: b is what good line gave
 
@@ -164,35 +163,38 @@ module _ (row text : List ℕ) (s : State) (t : List ℕ) (rd : Ready row (roomF
 
     -- all of the text, at a state with room for it
     whole-run : (b : State) (t₁ : List ℕ) → Ready row (putCharacter 32) b → LineGood false b → here b .character + length text ≤ lineHere b + 1 → (cs : List ℕ) → text ≡ cs → All printable cs
-        → putCharacters row text b t₁ ≡ done tt (onRun b (storedBy (length text) (b .run))) (sets t₁ (characterIndex (shapeOf b) (here b)) text)
+        → putCharacters row text b t₁ ≡ done tt (storedBy (length text) b) (sets t₁ (characterIndex (shapeOf b) (here b)) text)
     whole-run b t₁ r g k [] e a = absurd (omega (arith, some, ap length e))
     whole-run b t₁ r g k (c ∷ cs) e (also q qs) =
         let z : suc (length cs) ≡ length text = sym (ap length e) in
         ap (λ (x : List ℕ). putCharacters row x b t₁) e ∙ put-run row c cs b t₁ (any-character c r) g q qs (omega (arith, k, z))
-        ∙ ap (λ (x : List ℕ). done tt (onRun b (storedBy (length x) (b .run))) (sets t₁ (characterIndex (shapeOf b) (here b)) x)) (sym e)
+        ∙ ap (λ (x : List ℕ). done tt (storedBy (length x) b) (sets t₁ (characterIndex (shapeOf b) (here b)) x)) (sym e)
 
-    pub text-here : here b .character ≡ 1 → {y : Run} {t′ : List ℕ} → y ≡ storedBy (length text) (b .run) → t′ ≡ sets t₁ (characterIndex (shapeOf b) (here b)) text → {x : Outcome} → x ≡ doneBy y → outcomeAt x b t′ ≡ putText row text s t
+    -- what the code leaves
+    text-as : (b : State) (t₁ : List ℕ) {y : Run} {t′ l′ p′ : List ℕ} {x : Outcome} → state y l′ p′ ≡ storedBy (length text) b → t′ ≡ sets t₁ (characterIndex (shapeOf b) (here b)) text → x ≡ doneBy y
+        → outcome x t′ l′ p′ ≡ done tt (storedBy (length text) b) (sets t₁ (characterIndex (shapeOf b) (here b)) text)
+    text-as b t₁ {t′ = t′} {l′ = l′} {p′ = p′} hu ht hx = ap (λ (o : Outcome). outcome o t′ l′ p′) hx ∙ ap (λ (u : State). done tt u t′) hu ∙ ap (λ (l : List ℕ). done tt (storedBy (length text) b) l) ht
+
+    pub text-here : here b .character ≡ 1 → {y : Run} {t′ l′ p′ : List ℕ} → state y l′ p′ ≡ storedBy (length text) b → t′ ≡ sets t₁ (characterIndex (shapeOf b) (here b)) text → {x : Outcome} → x ≡ doneBy y → outcome x t′ l′ p′ ≡ putText row text s t
     unfolding putText pure
-    text-here c {y} {t′} hy ht hx = outcome-is b t′ hx ∙ ap (λ (r : Run). done tt (onRun b r) t′) hy ∙ ap (λ (l : List ℕ). done tt (onRun b (storedBy (length text) (b .run))) l) ht
+    text-here c hu ht hx = text-as b t₁ hu ht hx
         ∙ sym (bind-done _ _ s t f ∙ bind-done _ _ b t₁ (test-true _ _ _ b t₁ (eq-eqb (here b .character) 1 c))
         ∙ whole-run b t₁ put-ready (room-done .claim .1 .0) (fits-fact (length text) b (room-done .claim .1 .1)) text refl (all-of printable text p))
 
-    module _ (c : here b .character ≡ 1 → ⊥) {y : Run} {t₂ : List ℕ} (hy : y ≡ storedBy 1 (b .run)) (ht : t₂ ≡ set t₁ (characterIndex (shapeOf b) (here b)) 32) where
-      after-blank : putText row text s t ≡ putCharacters row text (onRun b y) t₂
+    module _ (c : here b .character ≡ 1 → ⊥) {u : State} {t₂ : List ℕ} (hu : u ≡ storedBy 1 b) (ht : t₂ ≡ set t₁ (characterIndex (shapeOf b) (here b)) 32) where
+      after-blank : putText row text s t ≡ putCharacters row text u t₂
       unfolding putText
-      after-blank = bind-done _ _ s t f ∙ bind-done _ _ b t₁ (test-false _ _ _ b t₁ (ne-eqb (here b .character) 1 c) ∙ put-one row 32 b t₁ put-ready (room-done .claim .1 .0) blank-printable ∙ sym (stored-is b t₁ 32 hy ht))
+      after-blank = bind-done _ _ s t f ∙ bind-done _ _ b t₁ (test-false _ _ _ b t₁ (ne-eqb (here b .character) 1 c) ∙ one-stored row 32 b t₁ put-ready (room-done .claim .1 .0) blank-printable ∙ ap (λ (v : State). done tt v (set t₁ (characterIndex (shapeOf b) (here b)) 32)) (sym hu) ∙ ap (λ (v : List ℕ). done tt u v) (sym ht))
 
-      pub blank-ready : Ready row (putCharacter 32) (onRun b y)
-      blank-ready = subst (λ (r : Run). Ready row (putCharacter 32) (onRun b r)) (sym hy) (one-ready row 32 b t₁ put-ready (room-done .claim .1 .0) blank-printable)
+      pub blank-ready : Ready row (putCharacter 32) u
+      blank-ready = subst (Ready row (putCharacter 32)) (sym hu) (one-ready row 32 b t₁ put-ready (room-done .claim .1 .0) blank-printable)
 
-      pub text-after : {z : Run} {t′ : List ℕ} → z ≡ storedBy (length text) y → t′ ≡ sets t₂ (characterIndex (y .file .shape) (y .file .position)) text → {x : Outcome} → x ≡ doneBy z → outcomeAt x b t′ ≡ putText row text s t
-      text-after {z} {t′} hz ht′ hx =
+      pub text-after : {z : Run} {t′ l′ p′ : List ℕ} → state z l′ p′ ≡ storedBy (length text) u → t′ ≡ sets t₂ (characterIndex (shapeOf u) (here u)) text → {x : Outcome} → x ≡ doneBy z → outcome x t′ l′ p′ ≡ putText row text s t
+      text-after hz ht′ hx =
           let k = fits-fact-after (length text) b c (room-done .claim .1 .1) in
-          let g : LineGood false (onRun b y) = subst (λ (r : Run). LineGood false (onRun b r)) (sym hy) (good-on b 1 (room-done .claim .1 .0) (omega (arith, k, some))) in
-          let e : y .file .position .character ≡ here b .character + 1 = ap (λ (r : Run). r .file .position .character) hy in
-          let w : y .file .position .character + length text ≤ lineHere (onRun b y) + 1 = subst (λ (r : Run). r .file .position .character + length text ≤ lineHere (onRun b r) + 1) (sym hy) (omega (arith, k)) in
-          outcome-is b t′ hx ∙ ap (λ (r : Run). done tt (onRun b r) t′) hz ∙ ap (λ (l : List ℕ). done tt (onRun b (storedBy (length text) y)) l) ht′
-          ∙ sym (after-blank ∙ whole-run (onRun b y) t₂ blank-ready g w text refl (all-of printable text p))
+          let g : LineGood false u = subst (LineGood false) (sym hu) (good-on b 1 (room-done .valid) (room-done .claim .1 .0) (omega (arith, k, some))) in
+          let w : here u .character + length text ≤ lineHere u + 1 = subst (λ (v : State). here v .character + length text ≤ lineHere v + 1) (sym hu) (omega (arith, k, line-stays b 1 (room-done .valid))) in
+          text-as u t₂ hz ht′ hx ∙ sym (after-blank ∙ whole-run u t₂ blank-ready g w text refl (all-of printable text p))
 
 -- ---- blanks passed: b is what good line gave, c stands there
 

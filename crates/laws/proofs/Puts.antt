@@ -1,5 +1,5 @@
 -- The laws of a string put, in the shape in which code meets them. Assumes nothing.
-use Prim.Native.Nat.{ℕ, zero, suc, _+_, _*_, _-_, _<_, _≤_}
+use Prim.Native.Nat.{ℕ, suc, _+_, _<_, _≤_}
 use native.Mathlib.Omega.{arith}
 use native.Mathlib.Numerals.{add-one}
 use mathlib.Core.Path.{_≡_, refl, sym, ap, subst, _∙_}
@@ -7,8 +7,7 @@ use mathlib.Core.List.{List, [], _∷_, _++_}
 use mathlib.Core.Bool.{true, false}
 use lib.ListN.{length, take, drop, getD, length-take, length-drop, take-append-drop, drop-of-length-le}
 use lib.Seq.{sets, drop-cons, drop-drop}
-use Rattle.rules.specs.declared.Run.{Run}
-use Rattle.rules.specs.Book.{characterIndex, State, onRun, here, shapeOf, lineHere}
+use Rattle.rules.specs.Book.{characterIndex, State, here, shapeOf, lineHere}
 use Rattle.rules.specs.Step.{Ending, done, ends, _>>=_, pure}
 use Rattle.rules.specs.Steps.{putCharacter, printable, execute}
 use Rattle.rules.specs.Calls.{putCharacters}
@@ -51,25 +50,25 @@ module _ (row bytes : List ℕ) (i : ℕ) (s : State) (t : List ℕ) (rd : Ready
         any-character 0 (ready-on row (putCharacter b) s left-ready u (d .valid) (d .took) (gain-less (omega arith) (d .claim)))
 
   -- n of them at once
-  pub left-run : {n : ℕ} → 0 < n → Storable s bytes i n → {y : Run} {t′ : List ℕ} → y ≡ storedBy n (s .run) → t′ ≡ sets t (characterIndex (shapeOf s) (here s)) (take n (drop i bytes))
-      → (putCharacters row (drop i bytes) s t ≡ putCharacters row (drop (i + n) bytes) (onRun s y) t′) × Ready row (putCharacter 0) (onRun s y)
-  left-run {n} o r {y} {t′} hy ht = by (take n (drop i bytes)) refl (all-of printable (take n (drop i bytes)) (r .plain))
+  pub left-run : {n : ℕ} → 0 < n → Storable s bytes i n → {u : State} {t′ : List ℕ} → u ≡ storedBy n s → t′ ≡ sets t (characterIndex (shapeOf s) (here s)) (take n (drop i bytes))
+      → (putCharacters row (drop i bytes) s t ≡ putCharacters row (drop (i + n) bytes) u t′) × Ready row (putCharacter 0) u
+  left-run {n} o r {u} {t′} hu ht = by (take n (drop i bytes)) refl (all-of printable (take n (drop i bytes)) (r .plain))
     where
       size : length (take n (drop i bytes)) ≡ n
       size = simp (length-take, length-drop) (omega (arith, r .there))
 
-      by : (run : List ℕ) → take n (drop i bytes) ≡ run → All printable run → (putCharacters row (drop i bytes) s t ≡ putCharacters row (drop (i + n) bytes) (onRun s y) t′) × Ready row (putCharacter 0) (onRun s y)
+      by : (run : List ℕ) → take n (drop i bytes) ≡ run → All printable run → (putCharacters row (drop i bytes) s t ≡ putCharacters row (drop (i + n) bytes) u t′) × Ready row (putCharacter 0) u
       by [] e none = absurd (let z : length (take n (drop i bytes)) ≡ 0 = ap length e in omega (arith, size, z))
       by (b ∷ bs) e (also p ps) =
           let z : suc (length bs) ≡ n = sym (ap length e) ∙ size in
-          let x : Run = storedBy (suc (length bs)) (s .run) in
+          let x : State = storedBy (suc (length bs)) s in
           let j : ℕ = characterIndex (shapeOf s) (here s) in
-          let q : putCharacters row (b ∷ bs) s t ≡ done tt (onRun s x) (sets t j (b ∷ bs)) = put-run row b bs s t (any-character b rd) (r .good) p ps (omega (arith, r .room, z)) in
-          let w : x ≡ y = ap (λ (k : ℕ). storedBy k (s .run)) z ∙ sym hy in
-          let to : done (tt {0}) (onRun s x) (sets t j (b ∷ bs)) ≡ done tt (onRun s y) t′
-          = ap (λ (u : Run). done tt (onRun s u) (sets t j (b ∷ bs))) w ∙ ap (λ (v : List ℕ). done tt (onRun s y) (sets t j v)) (sym e) ∙ ap (λ (v : List ℕ). done tt (onRun s y) v) (sym ht) in
+          let q : putCharacters row (b ∷ bs) s t ≡ done tt x (sets t j (b ∷ bs)) = put-run row b bs s t (any-character b rd) (r .good) p ps (omega (arith, r .room, z)) in
+          let w : x ≡ u = ap (λ (k : ℕ). storedBy k s) z ∙ sym hu in
+          let to : done (tt {0}) x (sets t j (b ∷ bs)) ≡ done tt u t′
+          = ap (λ (v : State). done tt v (sets t j (b ∷ bs))) w ∙ ap (λ (v : List ℕ). done tt u (sets t j v)) (sym e) ∙ ap (λ (v : List ℕ). done tt u v) (sym ht) in
           let d = run-ready row b bs s t (any-character b rd) (r .good) p ps (omega (arith, r .room, z)) in (
             ap (λ (v : List ℕ). putCharacters row v s t) (sym (take-append-drop n (drop i bytes)) ∙ ap (λ (v : List ℕ). v ++ drop n (drop i bytes)) e ∙ ap (λ (v : List ℕ). (b ∷ bs) ++ v) (drop-drop n i bytes))
                 ∙ put-append row (b ∷ bs) (drop (i + n) bytes) s t ∙ bind-done _ _ s t (q ∙ to),
-            subst (λ (u : Run). Ready row (putCharacter 0) (onRun s u)) w (any-character 0 d),
+            subst (Ready row (putCharacter 0)) w (any-character 0 d),
           )

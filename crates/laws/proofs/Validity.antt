@@ -12,10 +12,11 @@ use Rattle.rules.specs.declared.Position.{Position}
 use Rattle.rules.specs.declared.Shape.{Shape}
 use Rattle.rules.specs.declared.Run.{Run}
 use Rattle.rules.specs.Book.{choose, place, before, within, nextCharacter, previousCharacter, nextLine, nextPage, Lengths, State, onRun, here, endOf, shapeOf, pageHere, lineHere, movedTo, pageLength, lineIndex, lineLength, inBounds}
-use Rattle.rules.specs.Step.{fileEnded, pageEnded, lineEnded, onEndPage, onEndLine}
+use Rattle.rules.specs.Step.{restoredFrom, fileEnded, pageEnded, lineEnded, onEndPage, onEndLine}
 use Rattle.rules.specs.Steps.{rank}
 pub use Rattle.rules.specs.Ready.{InBounds, Rules, Valid}
 use Rattle.laws.proofs.Order.{split, and-l, and-r, is-yes}
+use Rattle.laws.proofs.Restored.{bounds-grown, restored-grown, restored-lines-fit, restored-pages-fit}
 
 -- a position whose parts are small
 pub record Near (x : Position) : Type 0 where
@@ -167,6 +168,13 @@ module _ (s : State) (v : Valid s) where
 
   pub stored-before : lineEnded s ≡ false → before (endOf s) (nextCharacter (here s)) ≡ false → Rules (shapeOf s) (s .lengths) (nextCharacter (here s)) (endOf s)
   stored-before h o = rules-moved v (nextCharacter (here s)) (next-char-in h) (before-false (endOf s) (nextCharacter (here s)) (near-end v) (near-in v (nextCharacter (here s)) (next-char-in h)) o)
+
+  -- and where it takes the end back, with the lengths from there on as established
+  pub stored-back : lineEnded s ≡ false → Rules (shapeOf s) (restoredFrom (shapeOf s) (nextCharacter (here s)) (s .lengths)) (nextCharacter (here s)) (nextCharacter (here s))
+  stored-back h =
+      let x = nextCharacter (here s) in
+      rules-both v x (restoredFrom (shapeOf s) x (s .lengths)) (restored-lines-fit (shapeOf s) x (s .lengths) (v .line-fits) (v .page-fits)) (restored-pages-fit (shapeOf s) x (s .lengths) (v .line-fits) (v .page-fits))
+      (bounds-grown (restored-grown (shapeOf s) x (s .lengths) (v .line-fits) (v .page-fits)) (next-char-in h))
 
   pub back-valid : 1 < here s .character → Valid (moveTo (place (here s .page) (here s .line) (here s .character - 1)) s)
   back-valid h =

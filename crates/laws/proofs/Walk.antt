@@ -11,10 +11,10 @@ use borrow.Author.Tests.{ltb-true, ltb-false, not-false}
 use Rattle.rules.specs.declared.Position.{Position}
 use Rattle.rules.specs.declared.Run.{Run}
 use Rattle.rules.specs.Book.{choose, place, before, nextCharacter, previousCharacter, nextLine, nextPage, characterIndex, lineIndex, pageLength, State, onRun, here, endOf, shapeOf, rightsOf, lineHere, movedTo, bothMovedTo, signalledBy, nextWord, Event, Mending, Answer, isFalse, isTrue, jump, answerOf}
-use Rattle.rules.specs.Step.{Ending, Out, done, ends, Step, _>>=_, andThen, caught, pure, halt, refuse, refuseAt, refusal, refusalAt, stopped, attempt, look, change, changeRun, branch, test, need, fileEnded, pageEnded, lineEnded, onEndPage, onEndLine, pass, signal, moodOn, backspace, reset, characterHere, endAfter, store, cutLine, fillLine, endLine, cutPage, fillPage, endPage}
+use Rattle.rules.specs.Step.{cameTo, goesBack, restoredFrom, Ending, Out, done, ends, Step, _>>=_, andThen, caught, pure, halt, refuse, refuseAt, refusal, refusalAt, stopped, attempt, look, change, changeRun, branch, test, need, fileEnded, pageEnded, lineEnded, onEndPage, onEndLine, pass, signal, moodOn, backspace, reset, characterHere, endAfter, store, cutLine, fillLine, endLine, cutPage, fillPage, endPage}
 use Rattle.rules.specs.Steps.{Action, backspaces, upon, rank, spent, spentBy, stage}
 use Rattle.rules.specs.Told.{known}
-use Rattle.laws.proofs.Validity.{Valid, Rules, Near, near-at, near-end, near-in, stored-valid, stored-before, back-valid, first-valid, cut-line-fits, cut-page-fits, next-line-both, next-page-both}
+use Rattle.laws.proofs.Validity.{Valid, Rules, Near, near-at, near-end, near-in, stored-valid, stored-before, stored-back, back-valid, first-valid, cut-line-fits, cut-page-fits, next-line-both, next-page-both}
 use Rattle.laws.proofs.Progress.{Grown, Gain, Answered, Ready, FileGood, moved-gain, heard, answer, heard-took}
 
 -- what a step leaves where it ends the call
@@ -203,15 +203,24 @@ at-endPage s t v h = record { same = refl; post = endPage-case (rightsOf s .comp
 pub pass-gain : (s : State) → Gain 16 (s .run) (movedTo (s .run) (nextCharacter (here s)))
 pass-gain s = moved-gain s (nextCharacter (here s)) 16 (omega arith)
 
-pub stored-rules : (a b : Bool) (s : State) → Valid s → lineEnded s ≡ false → before (endOf s) (nextCharacter (here s)) ≡ a
-    → Rules (shapeOf s) (s .lengths) (nextCharacter (here s)) (choose a (nextCharacter (here s)) (choose b (nextCharacter (here s)) (endOf s)))
-stored-rules true b s v h o = stored-valid s v h
-stored-rules false true s v h o = stored-valid s v h
-stored-rules false false s v h o = stored-before s v h o
+-- a character stored: a, the position is beyond the end; b, the end goes back; c, the book is compressible
+pub stored-rules : (a b c : Bool) (s : State) → Valid s → lineEnded s ≡ false → before (endOf s) (nextCharacter (here s)) ≡ a
+    → Rules (shapeOf s) (choose (not a && (b && c)) (restoredFrom (shapeOf s) (nextCharacter (here s)) (s .lengths)) (s .lengths)) (nextCharacter (here s)) (choose a (nextCharacter (here s)) (choose b (nextCharacter (here s)) (endOf s)))
+stored-rules true b c s v h o = stored-valid s v h
+stored-rules false true true s v h o = stored-back s v h
+stored-rules false true false s v h o = stored-valid s v h
+stored-rules false false c s v h o = stored-before s v h o
+
+pub stored-closed : (s : State) → Valid s → lineEnded s ≡ false → Closed s (cameTo s (nextCharacter (here s)))
+stored-closed s v h = record {
+  valid = stored-rules (before (endOf s) (nextCharacter (here s))) (goesBack (rightsOf s .«set») (endOf s) (nextCharacter (here s))) (rightsOf s .compress) s v h refl;
+  gain = pass-gain s;
+  taken = refl;
+}
 
 pub at-store : {E : Ending → State → Type 0} (c : ℕ) (s : State) (t : List ℕ) → Valid s → lineEnded s ≡ false → At E (λ _ u. Closed s u) (store c) (store c) s t
 unfolding store
-at-store c s t v h = record { same = refl; post = post-done {t = set t (characterIndex (shapeOf s) (here s)) c} (record { valid = stored-rules (before (endOf s) (nextCharacter (here s))) (not (rightsOf s .«set») && before (nextCharacter (here s)) (place (endOf s .page) (endOf s .line) 1)) s v h refl; gain = pass-gain s; taken = refl }) }
+at-store c s t v h = record { same = refl; post = post-done {t = set t (characterIndex (shapeOf s) (here s)) c} (stored-closed s v h) }
 
 -- no event, wherever the position has gone
 pub record Still (s u : State) : Type 0 where

@@ -4,9 +4,8 @@ use Prim.Native.Nat.{ℕ, _+_}
 use mathlib.Core.Bool.{Bool, true, not, _&&_}
 use mathlib.Core.List.{List, [], _∷_}
 use Rattle.rules.specs.declared.Position.{Position}
-use Rattle.rules.specs.declared.Run.{Run}
-use Rattle.rules.specs.Book.{place, withEnd, movedTo}
-use Rattle.rules.specs.Step.{endAfter}
+use Rattle.rules.specs.Book.{place, State, here}
+use Rattle.rules.specs.Step.{cameTo}
 use Rattle.rules.specs.Steps.{printable}
 use Rattle.rules.specs.Calls.{oneOf}
 
@@ -14,9 +13,9 @@ use Rattle.rules.specs.Calls.{oneOf}
 abbrev pub onBy : ℕ → Position → Position
 onBy n x = place (x .page) (x .line) (x .character + n)
 
--- the running call after n characters, at least one, were stored on its line
-abbrev pub storedBy : ℕ → Run → Run
-storedBy n r = withEnd (movedTo r (onBy n (r .file .position))) (endAfter (r .file .rights .«set») (r .end) (onBy n (r .file .position)))
+-- the state after n characters, at least one, were stored on the position's line
+abbrev pub storedBy : ℕ → State → State
+storedBy n s = cameTo s (onBy n (here s))
 
 -- whether a test holds of every byte
 unfoldable pub every : (ℕ → Bool) → List ℕ → Bool

@@ -228,7 +228,7 @@ pub fn try_character(
         }
         let at = good.run;
         if characters::is_printable(c) {
-            let on = stores::store_character(at, text, c);
+            let on = stores::store_character(at, text, lines, pages, c);
             return running::finish(on);
         }
         let answer = character_event(at, false, 32, text, lines, pages, row);
@@ -256,7 +256,7 @@ pub fn put_character(
 {
     if characters::is_printable(b) {
         if places::line_good(run, false, lines, pages) {
-            let on = stores::store_character(run, text, b);
+            let on = stores::store_character(run, text, lines, pages, b);
             return running::finish(on);
         }
     }
@@ -300,7 +300,7 @@ pub fn space(
         );
         return running::finish(on);
     }
-    let stored = stores::store_character(at, text, 32);
+    let stored = stores::store_character(at, text, lines, pages, 32);
     running::finish(stored)
 }
 

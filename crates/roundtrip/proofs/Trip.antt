@@ -2,7 +2,7 @@
 use Prim.Native.Nat.{ℕ, _+_, _≤_}
 use native.Mathlib.Omega.{arith}
 use mathlib.Core.Path.{_≡_, refl, sym, ap, subst, _∙_}
-use mathlib.Core.Bool.{Bool, true, false, not}
+use mathlib.Core.Bool.{true, false, not}
 use mathlib.Core.List.{List, [], _++_}
 use lib.Dec.{ltb}
 use lib.ListN.{length, drop}
@@ -12,18 +12,21 @@ use borrow.Author.Tests.{le-ltb, lt-ltb, ne-eqb}
 use Rattle.rules.specs.declared.Position.{Position}
 use Rattle.rules.specs.declared.Shape.{Shape}
 use Rattle.rules.specs.declared.File.{File}
-use Rattle.rules.specs.Book.{place, before, pageLength, characterIndex, State, onRun, rightsOf, lineHere, inMood, rowFits, allWordsFit, allFits}
-use Rattle.rules.specs.Step.{done, Step, _>>=_, _>>_, pure, change, finished, need, again, size, fileEnded, endAfter}
+use Rattle.rules.specs.Book.{place, before, pageLength, characterIndex, State, onRun, rightsOf, lineHere, inMood, rowFits, allWordsFit}
+use Rattle.rules.specs.Step.{done, pure, finished, fileEnded, endAfter}
 use Rattle.rules.specs.Steps.{Action, goodLine, roomFor, execute}
 use Rattle.rules.specs.Whole.{wholeText, lowest}
 use Rattle.rules.specs.Ready.{Ready}
-use Rattle.rules.specs.Calls.{nothing, anInteger, begin, turnable, putting, getting, putText, puttingInteger, takeInteger, gettingInteger, putsInteger, getsInteger, asking, askingWork, work, bufferOf, Book, book, After, enter, handBack, leave, call}
-use Rattle.laws.specs.Runs.{storedBy}
+use Rattle.rules.specs.Calls.{nothing, anInteger, putting, getting, putText, puttingInteger, takeInteger, gettingInteger, putsInteger, getsInteger, asking, askingWork, work, bufferOf, Book, book, After, enter, handBack, leave, call}
+use Rattle.laws.specs.Runs.{onBy, storedBy}
 use Rattle.laws.proofs.Order.{is-yes}
 use Rattle.laws.proofs.Progress.{LineGood}
 use Rattle.laws.proofs.Entry.{Fits, fits-facts, ready-any}
 use Rattle.laws.proofs.Ways.{bind-done, need-true}
+use Rattle.laws.proofs.Begun.{begun, turned}
 use Rattle.laws.proofs.Lines.{goodLine-at-once}
+use Rattle.laws.proofs.Restored.{Grown, page-grown, line-grown}
+use Rattle.laws.proofs.Runs.{stored-grown}
 use Rattle.laws.proofs.Numbers.{room-fits, fits-at, whole-printable, eleven, text-here}
 use Rattle.roundtrip.specs.RoundTrip.{MayWork, lineOfBook, AtLineStart, NoDigitAt, lineEnds, fileEnds, otherThere, afterPut, afterGet, afterEleven, ReadsBack, RoundTrip}
 use Rattle.roundtrip.proofs.Decimals.{writes}
@@ -40,14 +43,6 @@ not-lowest : (v : ℤ) → natAbs v ≤ 2147483647 → not (lowest v) ≡ true
 unfolding lowest
 not-lowest (pos n) h = refl
 not-lowest (negsuc n) h = ap not (ne-eqb n 2147483647 (λ e. omega (arith, h, e)))
-
-begun : {A : Type 0} (rest : Step A) (s : State) (t : List ℕ) → s .run .file .opened ≡ true → allFits (length t) s ≡ true → begin rest s t ≡ rest s t
-unfolding begin size _>>=_
-begun rest s t e g = need-true 1 _ _ s t e ∙ need-true 3 (allFits (length t)) (λ _. rest) s t g
-
-turned : (right : State → Bool) (reading : Bool) (s : State) (t : List ℕ) → right s ≡ true → turnable reading s ≡ true → (need 4 right >> (need 5 (turnable reading) >> again reading)) s t ≡ done tt (onRun s (inMood (s .run) reading)) t
-unfolding change
-turned right reading s t e g = need-true 4 _ _ s t e ∙ need-true 5 _ _ s t g
 
 -- ---- the put
 
@@ -67,7 +62,7 @@ module _ (v : ℤ) (f : File) (b : Book) (h : natAbs v ≤ 2147483647) (m : MayW
   written = sets (b .text) index text
 
   abbrev pub finally : State
-  finally = onRun writing (storedBy (length text) (writing .run))
+  finally = storedBy (length text) writing
 
   fits : Fits (length (b .text)) (enter f b)
   fits = fits-facts (length (b .text)) (enter f b) (is-yes _ (m .fits))
@@ -113,6 +108,16 @@ module _ (v : ℤ) (f : File) (b : Book) (h : natAbs v ≤ 2147483647) (m : MayW
       subst (λ (c : ℕ). before (place (f .position .page) (f .position .line) 11) (endAfter (f .rights .«set») (b .end) (place (f .position .page) (f .position .line) c)) ≡ true) z
       (end-beyond (f .rights .«set») (b .end) (f .position .page) (f .position .line))
 
+  -- no length got smaller: where the end went back, the line and its page may be longer
+  grown : Grown (writing .lengths) (finally .lengths)
+  grown = stored-grown writing (onBy (length text) (f .position)) (fits .valid)
+
+  still-long : 11 ≤ lineOfBook (f .shape) left (f .position)
+  still-long = omega (arith, w .long, line-grown (f .shape) grown (f .position .page) (f .position .line))
+
+  still-there : f .position .line ≤ pageLength (left .pages) (f .position .page)
+  still-there = omega (arith, line-is .line, page-grown grown (f .position .page))
+
   in-text : index + length text ≤ length (b .text)
   unfolding characterIndex
   in-text = omega (arith, line-is .room, w .first, eleven v)
@@ -131,14 +136,14 @@ module _ (v : ℤ) (f : File) (b : Book) (h : natAbs v ≤ 2147483647) (m : MayW
     first = ap (λ (x : Position). x .character) same-place ∙ w .first
 
     long : 11 ≤ lineHere reading
-    long = subst (λ (x : Position). 11 ≤ lineOfBook (g .shape) b x) (sym same-place) (subst (λ (k : Shape). 11 ≤ lineOfBook k b (f .position)) (sym same-shape) (w .long))
+    long = subst (λ (x : Position). 11 ≤ lineOfBook (g .shape) left x) (sym same-place) (subst (λ (k : Shape). 11 ≤ lineOfBook k left (f .position)) (sym same-shape) still-long)
 
     readable : Readable reading
     readable = record {
       valid = fits-facts (length (left .text)) (enter g left) (is-yes _ (may .fits)) .valid;
       taken = refl;
       events = refl;
-      page = subst (λ (x : Position). ltb (pageLength (b .pages) (x .page)) (x .line) ≡ false) (sym same-place) (le-ltb (pageLength (b .pages) (f .position .page)) (f .position .line) (line-is .line));
+      page = subst (λ (x : Position). ltb (pageLength (left .pages) (x .page)) (x .line) ≡ false) (sym same-place) (le-ltb (pageLength (left .pages) (f .position .page)) (f .position .line) still-there);
       long = long;
       ahead = subst (λ (x : Position). before (place (x .page) (x .line) 11) (left .end) ≡ true) (sym same-place) end-ahead;
     }

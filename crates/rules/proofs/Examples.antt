@@ -15,7 +15,7 @@ use Rattle.rules.specs.declared.Rights.{Rights}
 use Rattle.rules.specs.declared.Shape.{Shape}
 use Rattle.rules.specs.declared.File.{File}
 use Rattle.rules.specs.Book.{Event, logicalEnd, physicalEnd, pageEnd, lineEnd, within, place, before, pageLength, lineIndex, lineLength, characterIndex, inBounds, nextWord, kindOf, placeOf, mendingOf, answerOf, suggested, wordFits, allWordsFit, rowFits, legal, sizesFit, allUpTo, lengthsFit, someRight, moodsFit, shapeFits, bookFits, allFits}
-use Rattle.rules.specs.Step.{Ending, refusal, refusalAt, stopped, finished, _>>=_, pure, halt, attempt, look, change, branch, test, fileEnded, signal, moodOn, backspace, reset, characterHere, size, store, blanks, blankLine, blankLines, cutLine, cutPage, fillLine, fillPage, endLine, endPage}
+use Rattle.rules.specs.Step.{Ending, refusal, refusalAt, stopped, finished, _>>=_, pure, halt, attempt, look, change, branch, test, fileEnded, signal, moodOn, backspace, reset, characterHere, size, allFrom, restoredFrom, store, blanks, blankLine, blankLines, cutLine, cutPage, fillLine, fillPage, endLine, endPage}
 use Rattle.rules.specs.Steps.{printable, digit, fitsHere, signals, signalWhile, goodFileBody, goodPageBody, atPageEndBody, goodLineBody, atLineEndBody, newlineBody, newpageBody, setToBody, performBody, answeredBody, characterEvent, putCharacterBody, roomForBody, passBlanksBody, moreDigitsBody, spaceStep, setCharacterNumberBody, body, spent, supply, bounded, execute}
 use Rattle.rules.specs.Steps as Steps
 use Rattle.rules.specs.Whole.{digitsUpTo, signed, padded, wholeText, lowest, Written, whole}
@@ -279,12 +279,61 @@ AtValue = lastly usual 1 1 12 (plain establishes ∷ put "2147483648 " ∷ plain
 abbrev InAnswer : Type 0
 InAnswer = lastly usual 2 1 2 (full ++ (asking (putsString (bytes "c")) (0x50000000 ∷ []) ∷ [])) ≡ fullPage (says 6 1 1)
 
+-- ---- lengths that come back (document 02, C-13)
+
+-- a night's work: three strings on lines of their own
+abbrev night : List Call
+night = put "permit" ∷ asking newlines [] ∷ put "deny all" ∷ asking newlines [] ∷ put "log" ∷ []
+
+-- "the same strings fit as on the first" night, and on the next, and the next
+abbrev morning : After
+morning = leaves (says 0 0 0) (writing (place 1 3 4)) (book (stored 48 "permit??deny alllog") (6 ∷ 8 ∷ 8 ∷ 8 ∷ 8 ∷ 8 ∷ []) (replicate 2 3) (place 1 3 4))
+
+abbrev Nights : Type 0
+Nights = (after (plain establishes ∷ night) ≡ morning) × (after (plain establishes ∷ night ++ (plain resets ∷ night)) ≡ morning)
+    × (after (plain establishes ∷ night ++ (plain resets ∷ night) ++ (plain resets ∷ night)) ≡ morning)
+
+-- a longer string on a line that was cut: the new lengths hold for the next character of the same call already
+abbrev Longer : Type 0
+Longer = after (plain establishes ∷ put "abc" ∷ asking newlines [] ∷ put "de" ∷ plain resets ∷ put "permit a" ∷ []) ≡ leaves (says 0 0 0) (writing (place 1 1 9)) (holds "permit ade" (place 1 1 9))
+
+-- a book that is only put, so that newline after reset moves to the second line
+abbrev putting : Rights
+putting = record { get = false; put = true; «set» = false; reset = true; compress = true }
+
+-- "Nothing before the new end alters": the first line stays short; "the line holding the new logical end, all later lines, that page and all
+-- later pages" are as established
+abbrev FromThere : Type 0
+FromThere = lastly putting 2 3 8 (plain establishes ∷ put "ab" ∷ asking newlines [] ∷ put "cd" ∷ asking newpages [] ∷ put "ef" ∷ asking newpages [] ∷ plain resets ∷ asking newlines [] ∷ put "x" ∷ [])
+    ≡ leaves (says 0 0 0) (record-of putting 2 3 8 true false true (place 1 2 2)) (book (stored 48 "ab??????xd??????????????ef") (2 ∷ 8 ∷ 8 ∷ 8 ∷ 8 ∷ 8 ∷ []) (3 ∷ 3 ∷ []) (place 1 2 2))
+
+-- "in a compressible book": an open book 1·2·4 with a short first line and its end on the second, of which one record is compressible and
+-- one is not
+abbrev rewriting : Rights → After
+rewriting rights =
+    let r = run (put "a" ∷ []) (record-of rights 1 2 4 true false true (place 1 1 1)) (book (stored 8 "") (2 ∷ 3 ∷ []) (2 ∷ []) (place 1 2 2)) in
+    record { result = lastOf (r .results); file = r .file; book = r .book }
+
+abbrev Compressible : Type 0
+Compressible = (rewriting usual .book ≡ book (stored 8 "a") (4 ∷ 4 ∷ []) (2 ∷ []) (place 1 1 2)) × (rewriting blanking .book ≡ book (stored 8 "a") (2 ∷ 3 ∷ []) (2 ∷ []) (place 1 1 2))
+    × (rewriting random .book ≡ book (stored 8 "a") (2 ∷ 3 ∷ []) (2 ∷ []) (place 1 2 2))
+
+-- what the request does not reach: a first line of length 0, onto which no character can be stored, stays so; an integer on a line that is
+-- still short is refusal 10
+abbrev NotReached : Type 0
+NotReached = (after (plain establishes ∷ asking newlines [] ∷ put "ab" ∷ plain resets ∷ put "cd" ∷ [])
+    ≡ leaves (says 0 1 0) (writing (place 1 2 3)) (book (stored 48 "????????cd") (0 ∷ 8 ∷ 8 ∷ 8 ∷ 8 ∷ 8 ∷ []) (replicate 2 3) (place 1 2 3)))
+    × (lastly usual 1 2 12 (plain establishes ∷ put "abc" ∷ asking newlines [] ∷ put "d" ∷ plain resets ∷ asking (putsInteger (pos 7)) [] ∷ [])
+    ≡ leaves (says 10 0 0) (record-of usual 1 2 12 true false true (place 1 1 1)) (book (stored 24 "abc?????????d") (3 ∷ 12 ∷ []) (2 ∷ []) (place 1 2 2)))
+
 pub table : (E1 × E2 × E3 × E4 × E5 × E6 × E7 × E8 × E9 × E10 × E11 × Shown)
     × (FileFirst × Filled × FilledPage × CutPage × CutPageBefore × Afresh × Nested × Jumped × Read × TooLarge × SetBeyond × ViewToEnd × Refused)
     × (AtPageEnd × AtLineEnd × AtCharacter × AtValue × InAnswer)
-unfolding within before pageLength lineIndex lineLength characterIndex inBounds nextWord kindOf placeOf mendingOf answerOf suggested wordFits allWordsFit rowFits legal sizesFit allUpTo lengthsFit someRight moodsFit shapeFits bookFits allFits _>>=_ pure halt attempt look change branch test fileEnded signal moodOn backspace reset characterHere size store blanks blankLine blankLines cutLine cutPage fillLine fillPage endLine endPage printable digit fitsHere Steps.backspaces signals signalWhile goodFileBody goodPageBody atPageEndBody goodLineBody atLineEndBody newlineBody newpageBody setToBody performBody answeredBody characterEvent putCharacterBody roomForBody passBlanksBody moreDigitsBody spaceStep setCharacterNumberBody body spent supply bounded execute digitsUpTo signed padded wholeText lowest whole begin turnable established establishing opening closing resetting backspacing shown shownLength shownPart orMarker viewing viewNumber putCharacters puttingString putText puttingInteger takeCharacter gettingCharacter oneOf stringCharacter getCharacters gettingString firstDigit withSign integerGiven signBefore takeInteger gettingInteger spacing newlining newpaging settingCharacterNumber setting plainWork askingWork work bufferOf leave call run
+    × (Nights × Longer × FromThere × Compressible × NotReached)
+unfolding within before pageLength lineIndex lineLength characterIndex inBounds nextWord kindOf placeOf mendingOf answerOf suggested wordFits allWordsFit rowFits legal sizesFit allUpTo lengthsFit someRight moodsFit shapeFits bookFits allFits _>>=_ pure halt attempt look change branch test fileEnded signal moodOn backspace reset characterHere size allFrom restoredFrom store blanks blankLine blankLines cutLine cutPage fillLine fillPage endLine endPage printable digit fitsHere Steps.backspaces signals signalWhile goodFileBody goodPageBody atPageEndBody goodLineBody atLineEndBody newlineBody newpageBody setToBody performBody answeredBody characterEvent putCharacterBody roomForBody passBlanksBody moreDigitsBody spaceStep setCharacterNumberBody body spent supply bounded execute digitsUpTo signed padded wholeText lowest whole begin turnable established establishing opening closing resetting backspacing shown shownLength shownPart orMarker viewing viewNumber putCharacters puttingString putText puttingInteger takeCharacter gettingCharacter oneOf stringCharacter getCharacters gettingString firstDigit withSign integerGiven signBefore takeInteger gettingInteger spacing newlining newpaging settingCharacterNumber setting plainWork askingWork work bufferOf leave call run
 table = (
   (refl, refl, refl, refl, refl, refl, refl, refl, (refl, refl, refl, refl), (refl, refl), (refl, refl), (refl, refl, refl, refl)),
   (refl, refl, refl, refl, refl, refl, refl, refl, refl, refl, refl, (refl, refl), (refl, refl, refl, refl, refl, refl)),
   (refl, refl, (refl, refl), refl, refl),
+  ((refl, refl, refl), refl, refl, (refl, refl, refl), (refl, refl)),
 )

@@ -6,3 +6,4 @@ pub mod Calls
 pub mod Alike
 pub mod Ready
 pub mod Told
+pub mod Rewritten

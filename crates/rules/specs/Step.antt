@@ -2,17 +2,18 @@
 -- marks. Assumes nothing: these are definitions.
 use Prim.Native.Nat.{ℕ, zero, suc, _+_, _*_, _-_}
 use mathlib.Core.Bool.{Bool, true, false, not, _&&_, _||_}
-use mathlib.Core.List.{List, [], _∷_}
-use lib.ListN.{length, getD, set}
+use mathlib.Core.List.{List, [], _∷_, _++_}
+use lib.ListN.{length, getD, set, take, replicate}
 use lib.Dec.{leb, ltb, eqb}
 use Rattle.rules.specs.declared.Position.{Position}
 use Rattle.rules.specs.declared.Shape.{Shape}
+use Rattle.rules.specs.declared.Rights.{Rights}
 use Rattle.rules.specs.declared.Run.{Run}
 use Rattle.rules.specs.declared.Event as code
 use Rattle.rules.specs.declared.Event.the-variants.{None, LogicalEnd, PhysicalEnd, PageEnd, LineEnd, Character, Value}
 use Rattle.rules.specs.declared.Status.{Status}
 use Rattle.rules.specs.declared.Outcome.{Outcome}
-use Rattle.rules.specs.Book.{choose, place, before, nextCharacter, previousCharacter, nextLine, nextPage, Lengths, pageLength, lineIndex, lineLength, characterIndex, State, state, onRun, withLengths, here, endOf, shapeOf, rightsOf, pageHere, lineHere, withFile, withEnd, movedTo, bothMovedTo, inMood, rewound, Event, logicalEnd, physicalEnd, pageEnd, lineEnd, character, value, nextWord, signalledBy, Answer, answerOf}
+use Rattle.rules.specs.Book.{choose, place, before, nextCharacter, previousCharacter, nextLine, nextPage, Lengths, lengths, pageLength, lineIndex, lineLength, characterIndex, State, state, onRun, withLengths, here, endOf, shapeOf, rightsOf, pageHere, lineHere, withFile, withEnd, movedTo, bothMovedTo, inMood, rewound, Event, logicalEnd, physicalEnd, pageEnd, lineEnd, character, value, nextWord, signalledBy, Answer, answerOf}
 
 infixl 20 _>>=_
 infixl 20 _>>_
@@ -176,14 +177,35 @@ size = λ s t. done (length t) s t
 
 -- "If the position is now beyond the logical end, the end becomes it. Otherwise, if the book lacks set and (page of end, line of
 -- end, 1) is beyond the position, the end becomes the position. Otherwise the end stays."
+abbrev pub goesBack : Bool → Position → Position → Bool
+goesBack maySet end x = not maySet && before x (place (end .page) (end .line) 1)
+
 abbrev pub endAfter : Bool → Position → Position → Position
-endAfter maySet end x = choose (before end x) x (choose (not maySet && before x (place (end .page) (end .line) 1)) x end)
+endAfter maySet end x = choose (before end x) x (choose (goesBack maySet end x) x end)
+
+-- every length from index i on is n
+unfoldable pub allFrom : ℕ → ℕ → List ℕ → List ℕ
+allFrom i n xs = take i xs ++ replicate (length xs - i) n
+
+-- "the line holding the new logical end, all later lines, that page and all later pages return to their established lengths", C and L;
+-- "nothing before the new end alters" (document 02, C-13)
+unfoldable pub restoredFrom : Shape → Position → Lengths → Lengths
+restoredFrom h x f = lengths (allFrom (lineIndex h (x .page) (x .line)) (h .characters) (f .lines)) (allFrom (x .page - 1) (h .lines) (f .pages))
+
+-- "at that moment in a compressible book": the position is not beyond the end, and the end goes back to it
+abbrev pub lengthsAfter : Shape → Rights → Position → Position → Lengths → Lengths
+lengthsAfter h r end x f = choose (not (before end x) && (goesBack (r .«set») end x && r .compress)) (restoredFrom h x f) f
+
+-- the state with the position come to x over characters that were stored
+abbrev pub cameTo : State → Position → State
+cameTo s x = record {
+  run = withEnd (movedTo (s .run) x) (endAfter (rightsOf s .«set») (endOf s) x);
+  lengths = lengthsAfter (shapeOf s) (rightsOf s) (endOf s) x (s .lengths);
+}
 
 -- "Store it, c+1", and the logical end's rule
 unfoldable pub store : ℕ → Step Unit
-store b = λ s t.
-    let x = nextCharacter (here s) in
-    done tt (onRun s (withEnd (movedTo (s .run) x) (endAfter (rightsOf s .«set») (endOf s) x))) (set t (characterIndex (shapeOf s) (here s)) b)
+store b = λ s t. done tt (cameTo s (nextCharacter (here s))) (set t (characterIndex (shapeOf s) (here s)) b)
 
 -- n blanks from index i on
 unfoldable pub blanks : ℕ → ℕ → List ℕ → List ℕ

@@ -1,16 +1,19 @@
 -- One turn of the loops that blank and that store a run, and the cases of the logical end's rule. Assumes nothing.
 use Prim.Native.Nat.{ℕ, zero, suc, _+_, _-_, _≤_, _<_}
-use mathlib.Core.Path.{_≡_, refl, sym, ap, _∙_}
+use mathlib.Core.Path.{_≡_, refl, ap, _∙_}
 use mathlib.Core.Bool.{Bool, true, false, not, _&&_}
-use mathlib.Core.List.{List, [], _∷_, _++_}
+use mathlib.Core.List.{List, _∷_}
 use native.Mathlib.Omega.{arith}
 use native.Mathlib.Numerals.{add-one, sub-one}
-use lib.ListN.{length, getD, set, take, drop, length-set}
+use lib.ListN.{length, getD, set, take, drop}
 use lib.Seq.{sets, drop-cons}
 use Rattle.rules.specs.declared.Position.{Position}
 use Rattle.rules.specs.declared.Shape.{Shape}
-use Rattle.rules.specs.Book.{choose, place, before, Lengths, lineLength, characterIndex}
-use Rattle.rules.specs.Step.{endAfter, blanks, blankLine, blankLines}
+use Rattle.rules.specs.declared.Rights.{Rights}
+use Rattle.rules.specs.declared.Run.{Run}
+use Rattle.rules.specs.Book.{choose, place, before, State, withEnd, movedTo, Lengths, lengths, lineIndex, lineLength, characterIndex}
+use Rattle.laws.specs.Runs.{onBy, storedBy}
+use Rattle.rules.specs.Step.{goesBack, endAfter, allFrom, restoredFrom, lengthsAfter, blanks, blankLine, blankLines}
 
 pub lines-step : (h : Shape) (f : Lengths) (n p l : ℕ) (t : List ℕ) → 0 < n → blankLines h f (n - 1) p (l + 1) (blankLine h f (place p l 1) t) ≡ blankLines h f n p l t
 unfolding blankLines
@@ -35,14 +38,47 @@ pub run-none : (bs : List ℕ) (n from at i : ℕ) (t : List ℕ) → n ≤ i �
 run-none bs n from at i t h = let e : n - i ≡ 0 = omega arith in rw e
 
 module _ (maySet : Bool) (end x : Position) where
+  pub no-back : maySet ≡ true → false ≡ goesBack maySet end x
+  no-back k = rw k
+
+  pub may-back : maySet ≡ false → {r : Bool} → r ≡ before x (place (end .page) (end .line) 1) → r ≡ goesBack maySet end x
+  may-back k h = h ∙ rw k
+
   pub end-beyond : before end x ≡ true → x ≡ endAfter maySet end x
   end-beyond h = rw h
 
-  pub end-set : before end x ≡ false → maySet ≡ true → end ≡ endAfter maySet end x
-  end-set h k = rw (h, k)
+  pub end-back : before end x ≡ false → goesBack maySet end x ≡ true → x ≡ endAfter maySet end x
+  end-back h b = rw (h, b)
 
-  pub end-back : before end x ≡ false → maySet ≡ false → before x (place (end .page) (end .line) 1) ≡ true → x ≡ endAfter maySet end x
-  end-back h k b = rw (h, k, b)
+  pub end-stays : before end x ≡ false → goesBack maySet end x ≡ false → end ≡ endAfter maySet end x
+  end-stays h b = rw (h, b)
 
-  pub end-stays : before end x ≡ false → maySet ≡ false → before x (place (end .page) (end .line) 1) ≡ false → end ≡ endAfter maySet end x
-  end-stays h k b = rw (h, k, b)
+-- the lengths after the position came to x
+module _ (h : Shape) (r : Rights) (end x : Position) (f : Lengths) where
+  pub kept-whole : r .compress ≡ false → f ≡ lengthsAfter h r end x f
+  kept-whole c = by (not (before end x)) (goesBack (r .«set») end x) (r .compress) c
+    where
+      by : (a b c : Bool) → c ≡ false → f ≡ choose (a && (b && c)) (restoredFrom h x f) f
+      by true true true e = absurd (let o : _≡_ {A = ℕ} 0 1 = cc in omega arith)
+      by true true false e = refl
+      by true false c e = refl
+      by false b c e = refl
+
+  pub kept-beyond : before end x ≡ true → f ≡ lengthsAfter h r end x f
+  kept-beyond e = rw e
+
+  pub kept-here : before end x ≡ false → goesBack (r .«set») end x ≡ false → f ≡ lengthsAfter h r end x f
+  kept-here e b = rw (e, b)
+
+  pub came-back : r .compress ≡ true → before end x ≡ false → goesBack (r .«set») end x ≡ true → {i : ℕ} {l p : List ℕ} → i ≡ lineIndex h (x .page) (x .line)
+      → l ≡ allFrom i (h .characters) (f .lines) → p ≡ allFrom (x .page - 1) (h .lines) (f .pages) → lengths l p ≡ lengthsAfter h r end x f
+  unfolding restoredFrom
+  came-back c e b k hl hp = rw (c, e, b, hl, hp, k)
+
+abbrev stateWith : Run → Lengths → State
+stateWith r f = record { run = r; lengths = f }
+
+pub stored-of : (r : Run) (n : ℕ) (f : Lengths) {e : Position} {g : Lengths} → g ≡ lengthsAfter (r .file .shape) (r .file .rights) (r .end) (onBy n (r .file .position)) f → e ≡ endAfter (r .file .rights .«set») (r .end) (onBy n (r .file .position))
+    → stateWith (withEnd (movedTo r (onBy n (r .file .position))) e) g ≡ storedBy n (stateWith r f)
+stored-of r n f {e} {g} hg he = ap (λ (k : Lengths). stateWith (withEnd (movedTo r (onBy n (r .file .position))) e) k) hg
+    ∙ ap (λ (x : Position). stateWith (withEnd (movedTo r (onBy n (r .file .position))) x) (lengthsAfter (r .file .shape) (r .file .rights) (r .end) (onBy n (r .file .position)) f)) he

@@ -8,7 +8,7 @@ ghost use Prim.Native.Nat.{_+_, _-_, _≤_, _<_, _^_};
 ghost use lib.ListN.{length, set, take, drop, replicate};
 ghost use lib.Seq.{sets};
 ghost use Rattle.rules.specs.Book.{place, lengths, characterIndex, state};
-ghost use Rattle.rules.specs.Step.{Out, done, endAfter, blanks, blankLine, blankLines, endLine, endPage};
+ghost use Rattle.rules.specs.Step.{Out, done, goesBack, endAfter, allFrom, lengthsAfter, blanks, blankLine, blankLines, endLine, endPage};
 ghost use Rattle.laws.specs.Runs.{storedBy};
 ghost use Rattle.places.specs.Small.{Small};
 
@@ -101,6 +101,21 @@ pub fn blank_lines(
     }
 }
 
+// Whether the logical end, which x is not beyond, goes back to x.
+pub fn goes_back(set: bool, end: Position, x: Position) -> bool
+    ensures { λ r. ⌜ r ≡ goesBack «set» end x ⌝ }
+{
+    if set {
+        return false;
+    }
+    let start = Position {
+        page: end.page,
+        line: end.line,
+        character: 1,
+    };
+    places::is_before(x, start)
+}
+
 // The logical end after the position came to x.
 pub fn end_after(set: bool, end: Position, x: Position) -> Position
     ensures { λ r. ⌜ r ≡ endAfter «set» end x ⌝ }
@@ -108,21 +123,47 @@ pub fn end_after(set: bool, end: Position, x: Position) -> Position
     if places::is_before(end, x) {
         return x;
     }
-    if set {
-        return end;
-    }
-    let start = Position {
-        page: end.page,
-        line: end.line,
-        character: 1,
-    };
-    if places::is_before(x, start) { x } else { end }
+    if goes_back(set, end, x) { x } else { end }
 }
 
-// The running call after some characters were stored on its line.
-pub fn stored(run: Run, count: usize) -> Run
+// Makes every length from an index on the same.
+pub fn all_from(lengths: &mut [u8], from: usize, n: usize)
+    requires { ⌜ n ≤ 255 ⌝ }
+    ensures { λ _. ⌜ now (lengths .exit) ≡ allFrom from n (now (lengths .entry)) ⌝ }
+{
+    let mut i = from;
+    while i < lengths.len() {
+        put_length(lengths, i, n);
+        i += 1;
+    }
+}
+
+// "At that moment in a compressible book" the line of the new end, the later lines, its page and the later pages are as established.
+pub fn restore(run: Run, x: Position, lines: &mut [u8], pages: &mut [u8])
+    requires { ⌜ Small (run .file .shape) (x .page) (x .line) ⌝ }
+    ensures { λ _. ⌜ lengths (now (lines .exit)) (now (pages .exit)) ≡ lengthsAfter (run .file .shape) (run .file .rights) (run .end) x (lengths (now (lines .entry)) (now (pages .entry))) ⌝ }
+{
+    if !run.file.rights.compress {
+        return;
+    }
+    let end = run.end;
+    if places::is_before(end, x) {
+        return;
+    }
+    if !goes_back(run.file.rights.set, end, x) {
+        return;
+    }
+    let shape = run.file.shape;
+    let i = places::line_index(shape, x.page, x.line);
+    all_from(lines, i, shape.characters);
+    all_from(pages, x.page - 1, shape.lines);
+}
+
+// The running call, and the lengths, after some characters were stored on its line.
+pub fn stored(run: Run, count: usize, lines: &mut [u8], pages: &mut [u8]) -> Run
+    requires { ⌜ Small (run .file .shape) (run .file .position .page) (run .file .position .line) ⌝ }
     requires { ⌜ run .file .position .character + count < 2 ^ 32 ⌝ }
-    ensures { λ r. ⌜ r ≡ storedBy count run ⌝ }
+    ensures { λ r. ⌜ state r (now (lines .exit)) (now (pages .exit)) ≡ storedBy count (state run (now (lines .entry)) (now (pages .entry))) ⌝ }
 {
     let character = run.file.position.character + count;
     let x = Position {
@@ -130,6 +171,7 @@ pub fn stored(run: Run, count: usize) -> Run
         line: run.file.position.line,
         character: character,
     };
+    restore(run, x, lines, pages);
     let old = run.end;
     let end = end_after(run.file.rights.set, old, x);
     let mut r = run;
@@ -139,10 +181,10 @@ pub fn stored(run: Run, count: usize) -> Run
 }
 
 // "Store it, c+1", and the logical end's rule.
-pub fn store_character(run: Run, text: &mut [u8], b: u8) -> Run
+pub fn store_character(run: Run, text: &mut [u8], lines: &mut [u8], pages: &mut [u8], b: u8) -> Run
     requires { ⌜ Small (run .file .shape) (run .file .position .page) (run .file .position .line) ⌝ }
     requires { ⌜ (1 ≤ run .file .position .character) × (run .file .position .character ≤ 256) ⌝ }
-    ensures { λ r. ⌜ (r ≡ storedBy 1 run) × (now (text .exit) ≡ set (now (text .entry)) (characterIndex (run .file .shape) (run .file .position)) b) ⌝ }
+    ensures { λ r. ⌜ (state r (now (lines .exit)) (now (pages .exit)) ≡ storedBy 1 (state run (now (lines .entry)) (now (pages .entry)))) × (now (text .exit) ≡ set (now (text .entry)) (characterIndex (run .file .shape) (run .file .position)) b) ⌝ }
 {
     let shape = run.file.shape;
     let i = places::character_index(
@@ -152,7 +194,7 @@ pub fn store_character(run: Run, text: &mut [u8], b: u8) -> Run
         run.file.position.character,
     );
     store_byte(text, i, b);
-    stored(run, 1)
+    stored(run, 1, lines, pages)
 }
 
 // Writes a part of some bytes into the text.

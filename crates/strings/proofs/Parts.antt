@@ -1,19 +1,18 @@
 -- What a part of a string's put or get leaves to the rest, from what the code's calls have given. Assumes nothing.
-use Prim.Native.Nat.{ℕ, zero, suc, _+_, _-_, _≤_, _<_, _^_}
+use Prim.Native.Nat.{ℕ, zero, suc, _+_, _-_, _≤_, _<_}
 use native.Mathlib.Omega.{arith}
-use native.Mathlib.Numerals.{add-one}
 use mathlib.Core.Path.{_≡_, refl, sym, ap, subst, _∙_}
-use mathlib.Core.List.{List, [], _∷_, _++_}
+use mathlib.Core.List.{List, [], _∷_}
 use mathlib.Core.Bool.{Bool, true, false}
 use lib.ListN.{length, getD, set, take, drop, length-take}
 use lib.Seq.{sets, drop-set-lt, drop-drop}
 use Rattle.rules.specs.declared.Run.{Run}
 use Rattle.rules.specs.declared.Outcome.{Outcome}
-use Rattle.rules.specs.Book.{choose, characterIndex, State, state, onRun, here, shapeOf, lineHere, movedTo}
-use Rattle.rules.specs.Step.{endingBy, Out, done, ends, going, outcomeGiving, outcome, doneBy, stopped, stoppedBy}
+use Rattle.rules.specs.Book.{choose, characterIndex, State, state, here, shapeOf, movedTo}
+use Rattle.rules.specs.Step.{endingBy, done, ends, going, outcomeGiving, outcome, doneBy, stopped, stoppedBy}
 use Rattle.rules.specs.Steps.{putCharacter, passBlanks, printable, execute}
 use Rattle.rules.specs.Ready.{Ready}
-use Rattle.rules.specs.Calls.{Value, aString, putCharacters, stringCharacter, getCharacters}
+use Rattle.rules.specs.Calls.{aString, putCharacters, stringCharacter, getCharacters}
 use Rattle.laws.specs.Runs.{onBy, storedBy, every, ordinary}
 use Rattle.laws.proofs.Order.{split}
 use Rattle.laws.proofs.Validity.{Valid, line-length-le}
@@ -69,13 +68,13 @@ module _ (row bytes : List ℕ) (i : ℕ) (s : State) (t : List ℕ) (rd : Ready
   }
 
   pub put-more : {size room limit n : ℕ} → Room false s size room → limit ≤ room → limit ≤ length bytes - i → n ≤ limit → every printable (take n (drop i bytes)) ≡ true → (n ≡ 0 → ⊥)
-      → {at : ℕ} → at ≡ characterIndex (shapeOf s) (here s) → {y : Run} {t′ : List ℕ} {o : Outcome} → y ≡ storedBy n (s .run) → t′ ≡ sets t at (take n (drop i bytes)) → o ≡ doneBy y → Put row bytes i s t o n t′ (s .lengths .lines) (s .lengths .pages)
-  put-more {n = n} r a b k p z e {y} {t′} {o} hy ht ho =
+      → {at : ℕ} → at ≡ characterIndex (shapeOf s) (here s) → {y : Run} {t′ l′ p′ : List ℕ} {o : Outcome} → state y l′ p′ ≡ storedBy n s → t′ ≡ sets t at (take n (drop i bytes)) → o ≡ doneBy y → Put row bytes i s t o n t′ l′ p′
+  put-more {n = n} r a b k p z e {t′ = t′} {l′ = l′} {p′ = p′} hy ht ho =
       let m : 0 < n = some-of n z in
       let x = left-run row bytes i s t rd m
       (record { there = omega (arith, b, k); good = good-facts false s (r .good (omega (arith, a, k, m))); room = omega (arith, r .line, a, k); plain = p })
       hy (ht ∙ ap (λ (j : ℕ). sets t j (take n (drop i bytes))) e) in
-      subst (λ (o : Outcome). Put row bytes i s t o n t′ (s .lengths .lines) (s .lengths .pages)) (sym ho)
+      subst (λ (o : Outcome). Put row bytes i s t o n t′ l′ p′) (sym ho)
       (record { same = x .0; ready = λ _. x .1; some = m; within = omega (arith, b, k) })
 
 -- the two ways on from a part

@@ -83,10 +83,18 @@ pub fn run_length(
 }
 
 // Stores some characters of a string from the i-th on, at the position.
-pub fn store_some(run: Run, bytes: &[u8], i: usize, n: usize, text: &mut [u8]) -> Run
+pub fn store_some(
+    run: Run,
+    bytes: &[u8],
+    i: usize,
+    n: usize,
+    text: &mut [u8],
+    lines: &mut [u8],
+    pages: &mut [u8],
+) -> Run
     requires { ⌜ SmallRun run ⌝ }
     requires { ⌜ (run .file .position .character + n ≤ 256) × (characterIndex (run .file .shape) (run .file .position) + n ≤ length (now text)) × (i + n ≤ length (now bytes)) ⌝ }
-    ensures { λ r. ⌜ (r ≡ storedBy n run) × (now (text .exit) ≡ sets (now (text .entry)) (characterIndex (run .file .shape) (run .file .position)) (take n (drop i (now (bytes .entry))))) ⌝ }
+    ensures { λ r. ⌜ (state r (now (lines .exit)) (now (pages .exit)) ≡ storedBy n (state run (now (lines .entry)) (now (pages .entry)))) × (now (text .exit) ≡ sets (now (text .entry)) (characterIndex (run .file .shape) (run .file .position)) (take n (drop i (now (bytes .entry))))) ⌝ }
 {
     let shape = run.file.shape;
     let at = places::character_index(
@@ -96,7 +104,7 @@ pub fn store_some(run: Run, bytes: &[u8], i: usize, n: usize, text: &mut [u8]) -
         run.file.position.character,
     );
     stores::store_run(text, at, bytes, i, n);
-    stores::stored(run, n)
+    stores::stored(run, n, lines, pages)
 }
 
 // "Put a string: its characters in turn": runs of ordinary ones at once, any other by itself.
@@ -125,7 +133,7 @@ pub fn put_string(
             here = one.run;
             i += 1;
         } else {
-            here = store_some(here, bytes, i, n, text);
+            here = store_some(here, bytes, i, n, text, lines, pages);
             i += n;
         }
     }

@@ -99,7 +99,7 @@ seen-vis h f end x q = record {
   in-line = q .in-line;
 }
 
-loosen : {L : Lengths} {h : Shape} {f : Lengths} {end at : Position} {t t′ : List ℕ} → Sound L h f end at → Alike h f end t t′ → Loosely f end t t′
+loosen : {h : Shape} {f : Lengths} {end at : Position} {t t′ : List ℕ} → Sound h f end at → Alike h f end t t′ → Loosely f end t t′
 loosen {h = h} {f = f} {end = end} {t = t} {t′ = t′} i g = record {
   sizes = g .sizes;
   same = λ h′ l q x v.
@@ -108,7 +108,7 @@ loosen {h = h} {f = f} {end = end} {t = t} {t′ = t′} i g = record {
       (g .same x (seen-vis h f end x (subst (λ (k : Shape). Seen k f end x) e v)));
 }
 
-rel-loosen : {g : Bool} {A : Type 0} {Q : A → State → Type 0} (s : State) (n : ℕ) {x y : Out A} → Rel (rightsOf s) (s .lengths) Q x y → LRel g s n x y
+pub rel-loosen : {g : Bool} {A : Type 0} {Q : A → State → Type 0} (s : State) (n : ℕ) {x y : Out A} → Rel (rightsOf s) (s .lengths) Q x y → LRel g s n x y
 rel-loosen s n (both i q g) = lboth (worked i (g .full)) (loosen (i .sound) g)
 rel-loosen s n (over i g) = lover (worked i (g .full)) (loosen (i .sound) g)
 
@@ -139,7 +139,7 @@ vis-seen h f n end x q a b v =
       in-line = v .in-line;
     }
 
-all-sound : (n : ℕ) (s : State) → T (allFits n s) → Inv (rightsOf s) (s .lengths) s
+pub all-sound : (n : ℕ) (s : State) → T (allFits n s) → Inv (rightsOf s) (s .lengths) s
 unfolding allFits bookFits shapeFits someRight moodsFit
 all-sound n s q =
     let r : T (rightsOf s .get || rightsOf s .put) = search (and-l, and-r) depth 9 in
@@ -148,7 +148,8 @@ all-sound n s q =
     let c : T (not (s .run .file .writing) || rightsOf s .put) = search (and-l, and-r) depth 9 in
     let v = fits-facts n s q in
     record {
-      sound = record { legal-shape = v .legal-shape; rules = v .valid; pages = v .sizes .pages; lines = v .sizes .lines; shrunk = record { lines = λ k. omega arith; pages = λ k. omega arith } };
+      sound = record { legal-shape = v .legal-shape; rules = v .valid; pages = v .sizes .pages; lines = v .sizes .lines };
+      shrunk = λ _. record { lines = λ k. omega arith; pages = λ k. omega arith };
       rights = refl;
       some = r;
       moods = record { one = a; get = b; put = c };
@@ -178,7 +179,7 @@ loose-begin {rest = rest} s h = record {
 -- ---- the work of each call
 
 module _ {R : Rights} {L : Lengths} where
-  nothing-after : {f : Step (Unit {0})} {P : State → Type 0} → Sim R L P f Free → Sim R L P (f >>= λ _. pure nothing) Free
+  pub nothing-after : {f : Step (Unit {0})} {P : State → Type 0} → Sim R L P f Free → Sim R L P (f >>= λ _. pure nothing) Free
   nothing-after h = sim-bind h λ _. sim-pure Free nothing
 
   need-then : {B : Type 0} (n : ℕ) (f : State → Bool) {x : Step B} → Safe R L x → Safe R L (need n f >>= λ _. x)
@@ -210,7 +211,7 @@ module _ {R : Rights} {L : Lengths} where
   sim-getting = sim-bind (right-of true) λ _. sim-turn true
 
   module _ (row : List ℕ) where
-    sim-putCharacters : (bs : List ℕ) → Right R false → Safe R L (putCharacters row bs)
+    pub sim-putCharacters : (bs : List ℕ) → Right R false → Safe R L (putCharacters row bs)
     unfolding putCharacters
     sim-putCharacters [] a = sim-pure Free tt
     sim-putCharacters (b ∷ bs) a = sim-bind (sim-execute row (putCharacter b) a) λ _. sim-putCharacters bs a
@@ -329,7 +330,7 @@ module _ (row : List ℕ) (s : State) where
 module _ (s : State) where
   loose-closing : LooseAt false s closing
   unfolding closing
-  loose-closing = loose-begin s (nothing-after (sim-change (λ s. onRun s (withFile (s .run) (fileOpened (s .run .file) false))) (λ s i q. record { sound = i .sound; rights = i .rights; some = i .some; moods = i .moods }) (λ s i q. tt) (λ s t t′ i q g. g)))
+  loose-closing = loose-begin s (nothing-after (sim-change (λ s. onRun s (withFile (s .run) (fileOpened (s .run .file) false))) (λ s i q. record { sound = i .sound; shrunk = i .shrunk; rights = i .rights; some = i .some; moods = i .moods }) (λ s i q. tt) (λ s t t′ i q g. g)))
 
   loose-resetting : LooseAt false s resetting
   unfolding resetting

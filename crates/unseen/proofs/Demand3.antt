@@ -25,7 +25,7 @@ back-alike e v bs buffer s t t′ g = record {
   book = record { size = g .sizes; lines = refl; pages = refl; end = refl; same = g .same };
 }
 
-leave-alike : {g : Bool} (s₀ : State) (n : ℕ) (buffer : List ℕ) {x y : Out Value} → LRel g s₀ n x y → AfterAlike (leave buffer x) (leave buffer y)
+pub leave-alike : {g : Bool} (s₀ : State) (n : ℕ) (buffer : List ℕ) {x y : Out Value} → LRel g s₀ n x y → AfterAlike (leave buffer x) (leave buffer y)
 unfolding leave
 leave-alike s₀ n buffer (lover {e = e} {s = s} {t = t} {t′ = t′} k g) = back-alike e nothing [] buffer s t t′ g
 leave-alike s₀ n buffer (lboth {a = nothing} {s = s} {t = t} {t′ = t′} k g) = back-alike finished nothing [] buffer s t t′ g
@@ -43,13 +43,17 @@ call-alike k f b b′ g =
     e : enter f b ≡ enter f b′
     e = λ i. record { run = runWith f (g .end i) 0 0; lengths = record { lines = g .lines i; pages = g .pages i } }
 
+-- and the calls after it
+pub then-alike : (k : Call) (ks : List Call) (f : File) (b b′ : Book) → AfterAlike (call k f b) (call k f b′) → ((g : File) (c c′ : Book) → BooksAlike c c′ → RunsAlike (run ks g c) (run ks g c′)) → RunsAlike (run (k ∷ ks) f b) (run (k ∷ ks) f b′)
+unfolding run
+then-alike k ks f b b′ a next =
+    let r : RunsAlike (run ks (call k f b .file) (call k f b .book)) (run ks (call k f b′ .file) (call k f b′ .book))
+    = subst (λ (f′ : File). RunsAlike (run ks (call k f b .file) (call k f b .book)) (run ks f′ (call k f b′ .book))) (a .file)
+    (next (call k f b .file) (call k f b .book) (call k f b′ .book) (a .book)) in
+    record { results = λ i. a .result i ∷ r .results i; file = r .file; book = r .book }
+
 -- DEMAND 3
 pub demand3 : Demand3
 unfolding run
 demand3 f b b′ g [] = record { results = refl; file = refl; book = g }
-demand3 f b b′ g (k ∷ ks) =
-    let a = call-alike k f b b′ g in
-    let r : RunsAlike (run ks (call k f b .file) (call k f b .book)) (run ks (call k f b′ .file) (call k f b′ .book))
-    = subst (λ (f′ : File). RunsAlike (run ks (call k f b .file) (call k f b .book)) (run ks f′ (call k f b′ .book))) (a .file)
-    (demand3 (call k f b .file) (call k f b .book) (call k f b′ .book) (a .book) ks) in
-    record { results = λ i. a .result i ∷ r .results i; file = r .file; book = r .book }
+demand3 f b b′ g (k ∷ ks) = then-alike k ks f b b′ (call-alike k f b b′ g) (λ f′ c c′ h. demand3 f′ c c′ h ks)

@@ -21,7 +21,7 @@ use Rattle.rules.specs.Alike.{lengthsOf}
 use Rattle.laws.proofs.Order.{and-l, and-r, split, yes, is-yes}
 use Rattle.laws.proofs.Validity.{Near, near-at, near-end, near-in, before-true, in-bounds, line-length-le, page-length-le}
 use Rattle.laws.proofs.Entry.{all-getD, Legal, legal-facts, Sizes, sizes-facts}
-use Rattle.unseen.proofs.Sim.{Moods, Shrunk, Inv}
+use Rattle.unseen.proofs.Sim.{Moods, Shrunk, regains, Inv}
 use Rattle.unseen.proofs.Moves.{rewound-moods}
 use Rattle.unseen.proofs.Calls.{Loosely, Kept, unchanged, worked, reopened, begun, LRel, lboth, lover, growing, loose-work}
 
@@ -197,14 +197,15 @@ validity-kept k f b h =
 shrunk-none : (f : Lengths) → Shrunk f f
 shrunk-none f = record { lines = λ j. omega arith; pages = λ j. omega arith }
 
-kept-shrunk : {s u : State} {n m : ℕ} → Kept s n false u m → Shrunk (s .lengths) (u .lengths)
-kept-shrunk {s = s} unchanged = shrunk-none (s .lengths)
-kept-shrunk (worked i e) = i .sound .shrunk
-kept-shrunk {s = s} (reopened q) = shrunk-none (s .lengths)
+kept-shrunk : {s u : State} {n m : ℕ} → T (not (regains (rightsOf s))) → Kept s n false u m → Shrunk (s .lengths) (u .lengths)
+kept-shrunk {s = s} r unchanged = shrunk-none (s .lengths)
+kept-shrunk r (worked i e) = i .shrunk r
+kept-shrunk {s = s} r (reopened q) = shrunk-none (s .lengths)
 
--- NO LINE OR PAGE LENGTH GROWS BUT AT ESTABLISH
-pub lengths-kept : (k : Call) (f : File) (b : Book) → growing k ≡ false → Shrunk (lengthsOf b) (lengthsOf (call k f b .book))
-lengths-kept k f b e =
+-- IN A BOOK THAT IS NOT COMPRESSIBLE OR HAS SET, NO LINE OR PAGE LENGTH GROWS BUT AT ESTABLISH. In any other one lengths come back where the
+-- end goes back, and there alone (rules, Step: `lengthsAfter`); what is before stays (laws, Restored).
+pub lengths-kept : (k : Call) (f : File) (b : Book) → growing k ≡ false → T (not (regains (f .rights))) → Shrunk (lengthsOf b) (lengthsOf (call k f b .book))
+lengths-kept k f b e r =
     let a = call-left k f b in
     let x : Kept (enter f b) (length (b .text)) false (a .last) (length (call k f b .book .text)) = subst (λ (g : Bool). Kept (enter f b) (length (b .text)) g (a .last) (length (call k f b .book .text))) e (a .kept) in
-    subst (λ (s : State). Shrunk (lengthsOf b) (s .lengths)) (sym (a .leaves)) (kept-shrunk x)
+    subst (λ (s : State). Shrunk (lengthsOf b) (s .lengths)) (sym (a .leaves)) (kept-shrunk r x)

@@ -6,3 +6,4 @@ pub mod Calls
 pub mod Demand3
 pub mod Kept
 pub mod Guards
+pub mod Rewritten

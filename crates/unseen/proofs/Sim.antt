@@ -32,16 +32,20 @@ pub record Shrunk (L f : Lengths) : Type 0 where
   pub lines : (k : ℕ) → getD (f .lines) k 0 ≤ getD (L .lines) k 0
   pub pages : (k : ℕ) → getD (f .pages) k 0 ≤ getD (L .pages) k 0
 
+-- whether lengths can come back: "in a compressible book", "if the book lacks set"
+abbrev pub regains : Rights → Bool
+regains R = R .compress && not (R .«set»)
+
 -- over shape, lengths, end and position
-pub record Sound (L : Lengths) (h : Shape) (f : Lengths) (end at : Position) : Type 0 where
+pub record Sound (h : Shape) (f : Lengths) (end at : Position) : Type 0 where
   pub legal-shape : Legal h
   pub rules : Rules h f at end
   pub pages : length (f .pages) ≡ h .pages
   pub lines : length (f .lines) ≡ h .pages * h .lines
-  pub shrunk : Shrunk L f
 
 pub record Inv (R : Rights) (L : Lengths) (s : State) : Type 0 where
-  pub sound : Sound L (shapeOf s) (s .lengths) (endOf s) (here s)
+  pub sound : Sound (shapeOf s) (s .lengths) (endOf s) (here s)
+  pub shrunk : T (not (regains R)) → Shrunk L (s .lengths)
   pub rights : rightsOf s ≡ R
   pub some : T (R .get || R .put)
   pub moods : Moods (s .run .file .reading) (s .run .file .writing) R
@@ -53,7 +57,7 @@ rank-Le a b na nb h = elim (lt-or-ge (a .page) (b .page)) [
   | inr p ↦ elim (lt-or-ge (a .line) (b .line)) [ inl l ↦ le-line (omega (arith, na, nb)) l | inr l ↦ le-character (omega (arith, na, nb)) (omega (arith, na, nb)) (omega (arith, na, nb)) ]
 ]
 
-module _ {L : Lengths} {h : Shape} {f : Lengths} {end at : Position} (i : Sound L h f end at) where
+module _ {h : Shape} {f : Lengths} {end at : Position} (i : Sound h f end at) where
   pub ordered : Le at end
   ordered = rank-Le at end (near-at (i .rules)) (near-end (i .rules)) (i .rules .order)
 

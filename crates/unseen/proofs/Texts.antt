@@ -4,21 +4,23 @@ use mathlib.Core.Path.{_≡_, refl, sym, ap, subst, _∙_}
 use mathlib.Core.Logic.{_⊎_, inl, inr}
 use Prim.Native.Nat.{ℕ, zero, suc, _+_, _*_, _-_, _≤_, _<_}
 use native.Mathlib.Omega.{arith}
-use mathlib.Core.Bool.{Bool, true, false, not, _&&_, _||_}
-use mathlib.Core.List.{List, [], _∷_}
+use mathlib.Core.Bool.{Bool, true, false, not, _&&_}
+use mathlib.Core.List.{List}
 use lib.ListN.{length, getD, set, length-set}
-use lib.Dec.{T, leb, ltb, eqb, leb→le, le→leb, ltb→lt, nltb→le, nleb→lt, eqb→eq}
+use lib.Dec.{T, leb, eqb, leb→le, le→leb, ltb→lt, nltb→le, eqb→eq}
+use borrow.Author.Tests.{ltb-false}
 use Rattle.rules.specs.declared.Position.{Position}
 use Rattle.rules.specs.declared.Shape.{Shape}
 use Rattle.rules.specs.declared.Rights.{Rights}
-use Rattle.rules.specs.Book.{choose, place, before, nextCharacter, nextLine, nextPage, Lengths, lengths, State, onRun, here, endOf, shapeOf, rightsOf, withEnd, withLengths, movedTo, bothMovedTo, pageLength, lineIndex, lineLength, characterIndex}
-use Rattle.rules.specs.Step.{Out, done, ends, Step, _>>=_, andThen, pure, change, changeRun, test, branch, fileEnded, pageEnded, lineEnded, characterHere, store, endAfter, blanks, blankLine, blankLines, cutLine, fillLine, endLine, cutPage, fillPage, endPage}
+use Rattle.rules.specs.Book.{choose, place, before, nextCharacter, nextLine, nextPage, Lengths, lengths, State, here, endOf, shapeOf, rightsOf, lineHere, bothMovedTo, pageLength, lineIndex, lineLength, characterIndex}
+use Rattle.rules.specs.Step.{done, ends, Step, _>>=_, andThen, pure, change, changeRun, test, branch, fileEnded, pageEnded, lineEnded, characterHere, goesBack, restoredFrom, cameTo, store, blanks, blankLine, blankLines, cutLine, fillLine, endLine, cutPage, fillPage, endPage}
 use Rattle.rules.specs.Ready.{Rules}
-use Rattle.laws.proofs.Order.{no, lt-or-ge, not-not, Lt, by-page, by-line, by-character, Le, le-page, le-line, le-character, Same, Pos1, before→Lt, nbefore→Le, Le-refl, Lt-Le, lt-next, lt-split, le-split, set-keep, set-hit, set-le, set-shrinks}
-use Rattle.laws.proofs.Validity.{cut-line-fits, cut-page-fits, next-line-both, next-page-both}
+use Rattle.laws.proofs.Order.{no, is-yes, lt-or-ge, not-not, Lt, by-page, by-line, by-character, Le, Same, Pos1, before→Lt, Lt-Le, lt-next, le-split, set-keep, set-hit, set-le, set-shrinks}
+use Rattle.laws.proofs.Restored.{length-all, Earlier, on-page, on-earlier, earlier-line, earlier-page}
+use Rattle.laws.proofs.Validity.{page-length-le, cut-line-fits, cut-page-fits, next-line-both, next-page-both}
 use Rattle.laws.proofs.Walk.{stored-rules}
-use Rattle.unseen.proofs.Sim.{Shrunk, Sound, Inv, ordered, fits, here1, end1, Vis, Alike, Agree, Rel, both, over, Sim, Any, Free, Safe}
-use Rattle.unseen.proofs.Moves.{AtEnd, FileOk, PageOk, LineOk}
+use Rattle.unseen.proofs.Sim.{Shrunk, regains, Inv, ordered, here1, Vis, Alike, Agree, Rel, both, Sim, Free}
+use Rattle.unseen.proofs.Moves.{AtEnd, FileOk, LineOk}
 
 pub ok-before : (s : State) → FileOk true s → T (before (here s) (endOf s))
 unfolding fileEnded
@@ -43,7 +45,7 @@ sim-character {R} {L} = record { sim = λ s t t′ i q g. char-case s t t′ i q
 
 -- ---- a character stored
 
-index-same : (h : Shape) (y x : Position) → Same y x → characterIndex h y ≡ characterIndex h x
+pub index-same : (h : Shape) (y x : Position) → Same y x → characterIndex h y ≡ characterIndex h x
 unfolding characterIndex lineIndex
 index-same h y x e = cc (e .page, e .line, e .character)
 
@@ -59,28 +61,94 @@ set-alike {h} {t = t} {t′ = t′} here e b g w = record {
   ];
 }
 
--- the new end is the next place, or the old end
-rule-cases : (maySet : Bool) (end x : Position) → (endAfter maySet end x ≡ x) ⊎ (endAfter maySet end x ≡ end)
-rule-cases maySet end x = go (before end x) (not maySet && before x (place (end .page) (end .line) 1))
-  where
-    go : (a b : Bool) → (choose a x (choose b x end) ≡ x) ⊎ (choose a x (choose b x end) ≡ end)
-    go true b = inl refl
-    go false true = inl refl
-    go false false = inr refl
-
 -- a place before the new end was before the old one, or is the one just stored
 stored-before : (x end e : Position) → Le x end → (e ≡ nextCharacter x) ⊎ (e ≡ end) → (y : Position) → Lt y e → Lt y end ⊎ Same y x
 stored-before x end e o (inl k) y l = elim (lt-next y x (subst (Lt y) k l)) [ inl m ↦ inl (Lt-Le y x end m o) | inr m ↦ inr m ]
 stored-before x end e o (inr k) y l = inl (subst (Lt y) k l)
+
+-- Where the end goes back, lengths come back from its line on. A place before the new end that is seen with these lengths was seen with the
+-- old ones: it is on an earlier line, whose length is what it was, or on this line before the position, which the line had.
+pub line-there : (h : Shape) (f : Lengths) (p l : ℕ) → 1 ≤ lineLength h f p l → l ≤ pageLength (f .pages) p
+unfolding lineLength
+line-there h f p l k = by (leb l (pageLength (f .pages) p)) refl k
+  where
+    by : (b : Bool) → leb l (pageLength (f .pages) p) ≡ b → 1 ≤ choose b (getD (f .lines) (lineIndex h p l) 0) 0 → l ≤ pageLength (f .pages) p
+    by true e n = leb→le l (pageLength (f .pages) p) (is-yes _ e)
+    by false e n = absurd (omega arith)
+
+back-vis : (h : Shape) (f : Lengths) (x y : Position) → ((k : ℕ) → getD (f .pages) k 0 ≤ h .lines) → Pos1 x → Pos1 y → x .character ≤ lineLength h f (x .page) (x .line) → Lt y x
+    → y .line ≤ pageLength (restoredFrom h (nextCharacter x) f .pages) (y .page) → y .character ≤ lineLength h (restoredFrom h (nextCharacter x) f) (y .page) (y .line)
+    → (y .line ≤ pageLength (f .pages) (y .page)) × (y .character ≤ lineLength h f (y .page) (y .line))
+back-vis h f x y w ox oy k (by-page m) a b =
+    let p : y .line ≤ pageLength (f .pages) (y .page) = subst (λ (n : ℕ). y .line ≤ n) (earlier-page h (nextCharacter x) f (oy .page) m) a in
+    let e : Earlier h (nextCharacter x) (y .page) (y .line) = on-earlier m (omega (arith, p, page-length-le h f (y .page) w)) in
+    (p, omega (arith, b, earlier-line h (nextCharacter x) f (oy .page) (oy .line) e p))
+back-vis h f x y w ox oy k (by-line e m) a b =
+    let q : pageLength (f .pages) (y .page) ≡ pageLength (f .pages) (x .page) = ap (pageLength (f .pages)) e in
+    let p : y .line ≤ pageLength (f .pages) (y .page) = omega (arith, q, m, line-there h f (x .page) (x .line) (omega (arith, k, ox .character))) in
+    (p, omega (arith, b, earlier-line h (nextCharacter x) f (oy .page) (oy .line) (on-page e m) p))
+back-vis h f x y w ox oy k (by-character e m c) a b =
+    let q : pageLength (f .pages) (y .page) ≡ pageLength (f .pages) (x .page) = ap (pageLength (f .pages)) e in
+    let r : lineLength h f (y .page) (y .line) ≡ lineLength h f (x .page) (x .line) = cc (e, m) in
+    (omega (arith, q, m, line-there h f (x .page) (x .line) (omega (arith, k, ox .character))), omega (arith, r, c, k))
+
+back-alike : {h : Shape} {f : Lengths} {end : Position} {t t′ : List ℕ} (x : Position) (b : ℕ) → ((k : ℕ) → getD (f .pages) k 0 ≤ h .lines) → Pos1 x → x .character ≤ lineLength h f (x .page) (x .line) → Le x end → Alike h f end t t′
+    → Alike h (restoredFrom h (nextCharacter x) f) (nextCharacter x) (set t (characterIndex h x) b) (set t′ (characterIndex h x) b)
+back-alike {h} {f} {end} {t} {t′} x b w ox k o g = record {
+  sizes = length-set t (characterIndex h x) b ∙ g .sizes ∙ sym (length-set t′ (characterIndex h x) b);
+  full = length-set t (characterIndex h x) b ∙ g .full;
+  same = λ y v. elim (lt-next y x (v .lt)) [
+    | inl m ↦ let z = back-vis h f x y w ox (v .one) k m (v .in-page) (v .in-line) in
+        set-keep t t′ (g .sizes) (characterIndex h x) (characterIndex h y) b (g .same y (record { one = v .one; lt = Lt-Le y x end m o; in-page = z .0; in-line = z .1 }))
+    | inr m ↦ subst (λ (j : ℕ). getD (set t (characterIndex h x) b) j 0 ≡ getD (set t′ (characterIndex h x) b) j 0) (sym (index-same h y x m))
+        (set-hit t t′ (g .sizes) (characterIndex h x) b)
+  ];
+}
+
+module _ (h : Shape) (f : Lengths) (x : Position) where
+  -- as many lengths
+  sizes-kept : (b : Bool) → (length (choose b (restoredFrom h x f) f .pages) ≡ length (f .pages)) × (length (choose b (restoredFrom h x f) f .lines) ≡ length (f .lines))
+  unfolding restoredFrom
+  sizes-kept true = (length-all (h .lines) (x .page - 1) (f .pages), length-all (h .characters) (lineIndex h (x .page) (x .line)) (f .lines))
+  sizes-kept false = (refl, refl)
+
+  -- no length comes back in a book with set, or that is not compressible
+  none-back : (a q c m : Bool) → T (not (c && not m)) → choose (not a && ((not m && q) && c)) (restoredFrom h x f) f ≡ f
+  none-back true q c m n = refl
+  none-back false q c true n = refl
+  none-back false q true false n = absurd n
+  none-back false true false false n = refl
+  none-back false false false false n = refl
+
+-- a, the position is beyond the end; b, the end goes back; c, the book is compressible
+stored-alike : (a b c : Bool) (s : State) (t t′ : List ℕ) (n : ℕ) {R : Rights} {L : Lengths} → Inv R L s → lineEnded s ≡ false → Agree s t t′
+    → Alike (shapeOf s) (choose (not a && (b && c)) (restoredFrom (shapeOf s) (nextCharacter (here s)) (s .lengths)) (s .lengths)) (choose a (nextCharacter (here s)) (choose b (nextCharacter (here s)) (endOf s)))
+    (set t (characterIndex (shapeOf s) (here s)) n) (set t′ (characterIndex (shapeOf s) (here s)) n)
+stored-alike true b c s t t′ n i q g = set-alike (here s) _ n g (stored-before (here s) (endOf s) _ (ordered (i .sound)) (inl refl))
+stored-alike false true true s t t′ n i q g = back-alike (here s) n (i .sound .rules .page-fits) (here1 (i .sound)) (ltb-false (lineHere s) (here s .character) q) (ordered (i .sound)) g
+stored-alike false true false s t t′ n i q g = set-alike (here s) _ n g (stored-before (here s) (endOf s) _ (ordered (i .sound)) (inl refl))
+stored-alike false false c s t t′ n i q g = set-alike (here s) _ n g (stored-before (here s) (endOf s) _ (ordered (i .sound)) (inr refl))
+
+pub stored-inv : {R : Rights} {L : Lengths} (s : State) → Inv R L s → lineEnded s ≡ false → Inv R L (cameTo s (nextCharacter (here s)))
+stored-inv {L = L} s i q =
+    let x = nextCharacter (here s) in
+    let back = goesBack (rightsOf s .«set») (endOf s) x in
+    let beyond = before (endOf s) x in
+    let sizes = sizes-kept (shapeOf s) (s .lengths) x (not beyond && (back && rightsOf s .compress)) in
+    record {
+      sound = record { legal-shape = i .sound .legal-shape; rules = stored-rules beyond back (rightsOf s .compress) s (i .sound .rules) q refl; pages = sizes .0 ∙ i .sound .pages; lines = sizes .1 ∙ i .sound .lines };
+      shrunk = λ n. subst (Shrunk L) (sym (none-back (shapeOf s) (s .lengths) x beyond (before x (place (endOf s .page) (endOf s .line) 1)) (rightsOf s .compress) (rightsOf s .«set») (subst (λ (r : Rights). T (not (regains r))) (sym (i .rights)) n))) (i .shrunk n);
+      rights = i .rights;
+      some = i .some;
+      moods = i .moods;
+    }
 
 pub sim-store : {R : Rights} {L : Lengths} (b : ℕ) → Sim R L (λ s. T (not (lineEnded s))) (store b) Free
 unfolding store
 sim-store b = record {
   sim = λ s t t′ i q g.
       let x = nextCharacter (here s) in
-      let r = stored-rules (before (endOf s) x) (not (rightsOf s .«set») && before x (place (endOf s .page) (endOf s .line) 1)) s (i .sound .rules) (no _ q) refl in
-      both (record { sound = record { legal-shape = i .sound .legal-shape; rules = r; pages = i .sound .pages; lines = i .sound .lines; shrunk = i .sound .shrunk }; rights = i .rights; some = i .some; moods = i .moods }) tt
-      (set-alike (here s) _ b g (stored-before (here s) (endOf s) _ (ordered (i .sound)) (rule-cases (rightsOf s .«set») (endOf s) x)));
+      both (stored-inv s i (no _ q)) tt (stored-alike (before (endOf s) x) (goesBack (rightsOf s .«set») (endOf s) x) (rightsOf s .compress) s t t′ b i (no _ q) g);
 }
 
 -- Blanks.
@@ -173,7 +241,8 @@ startOf s f x = record { run = bothMovedTo (s .run) x; lengths = f }
 both-inv : {R : Rights} {L : Lengths} (s : State) (f : Lengths) (x : Position) → Inv R L s → Rules (shapeOf s) f x x → length (f .pages) ≡ length (s .lengths .pages) → length (f .lines) ≡ length (s .lengths .lines)
     → Shrunk (s .lengths) f → Inv R L (startOf s f x)
 both-inv s f x i r a b k = record {
-  sound = record { legal-shape = i .sound .legal-shape; rules = r; pages = a ∙ i .sound .pages; lines = b ∙ i .sound .lines; shrunk = record { lines = λ j. omega (arith, k .lines j, i .sound .shrunk .lines j); pages = λ j. omega (arith, k .pages j, i .sound .shrunk .pages j) } };
+  sound = record { legal-shape = i .sound .legal-shape; rules = r; pages = a ∙ i .sound .pages; lines = b ∙ i .sound .lines };
+  shrunk = λ n. record { lines = λ j. omega (arith, k .lines j, i .shrunk n .lines j); pages = λ j. omega (arith, k .pages j, i .shrunk n .pages j) };
   rights = i .rights;
   some = i .some;
   moods = i .moods;

@@ -86,6 +86,16 @@ pub fn text_index(shape: Shape, place: Position) -> Option<usize> {
     start.checked_add(usize::try_from(place.character - 1).ok()?)
 }
 
+/// The length that a line is established with: C, at most 255 in a good shape.
+pub fn established_line(shape: Shape) -> u8 {
+    u8::try_from(shape.characters).unwrap_or(u8::MAX)
+}
+
+/// The length that a page is established with: L, at most 255 in a good shape.
+pub fn established_page(shape: Shape) -> u8 {
+    u8::try_from(shape.lines).unwrap_or(u8::MAX)
+}
+
 /// The length of a page in lines; "a page that is not there has length 0".
 pub fn page_length(shape: Shape, book: &Book, page: u32) -> u32 {
     if !(1..=shape.pages).contains(&page) {

@@ -1,7 +1,8 @@
 //! The public calls, each with its tests in document 01's order before work:
 //! 1, 3, 2, 9, 4, 5, 6, 12.
 
-use crate::book::{establish_fits, open_fits, record_and_book_fit, Book, File, Position};
+use crate::book::{establish_fits, established_line, established_page, open_fits};
+use crate::book::{record_and_book_fit, Book, File, Position};
 use crate::refusals::{Ending, Refusal, Signalled};
 use crate::spans::{differing_spans, Looked, Span};
 use crate::steps;
@@ -153,10 +154,8 @@ pub fn establish(file: &mut File, book: &mut Book) -> CallResult {
     if !file.rights.put {
         return refused(Refusal::NoRight);
     }
-    let full_line = u8::try_from(file.shape.characters).unwrap_or(u8::MAX);
-    let full_page = u8::try_from(file.shape.lines).unwrap_or(u8::MAX);
-    book.line_lengths.fill(full_line);
-    book.page_lengths.fill(full_page);
+    book.line_lengths.fill(established_line(file.shape));
+    book.page_lengths.fill(established_page(file.shape));
     book.logical_end = Position::START;
     file.position = Position::START;
     file.opened = true;

@@ -1,10 +1,12 @@
 //! Checks of this implementation by itself: what document 01 promises of every call. What C-11
-//! promises is checked in `span_checks`, what C-12 does in `event_checks`.
+//! promises is checked in `span_checks`, what C-12 does in `event_checks`, what C-13 does in
+//! `length_checks`. There too stands when lengths may grow: before C-13 it was at establish only.
 
 use crate::book::{line_length, record_and_book_fit, shape_is_good, text_index};
 use crate::book::{Book, File, Position, Rights, Shape};
 use crate::calls::CallResult;
 use crate::event_checks::{check_events, EventProperties, Made};
+use crate::length_checks::{check_lengths, check_nights, LengthProperties};
 use crate::random::Random;
 use crate::replay::{make_call, Call};
 use crate::say;
@@ -15,10 +17,10 @@ use crate::span_checks::{check_pair, SpanProperties};
 /// A book that owns what it lends.
 #[derive(Clone, PartialEq, Eq, Debug)]
 pub struct OwnBook {
-    text: Vec<u8>,
-    line_lengths: Vec<u8>,
-    page_lengths: Vec<u8>,
-    logical_end: Position,
+    pub text: Vec<u8>,
+    pub line_lengths: Vec<u8>,
+    pub page_lengths: Vec<u8>,
+    pub logical_end: Position,
 }
 
 /// A record and its book.
@@ -41,7 +43,6 @@ struct Properties {
     unchanged: Property,
     alike: Property,
     events: Property,
-    lengths: Property,
     integers: Property,
 }
 
@@ -208,13 +209,6 @@ fn few_events(file: &File, result: &CallResult) -> bool {
     u64::from(result.events) <= u64::from(result.taken) + lines + 1
 }
 
-/// No length has grown.
-fn none_grew(before: &OwnBook, after: &OwnBook) -> bool {
-    let lines = before.line_lengths.iter().zip(&after.line_lengths);
-    let pages = before.page_lengths.iter().zip(&after.page_lengths);
-    lines.chain(pages).all(|(before, after)| after <= before)
-}
-
 /// One call on both sides of a pair, and all that is checked of it. Gives the first side before
 /// the call, and what the call handed back.
 fn check_call(
@@ -238,8 +232,6 @@ fn check_call(
     properties.alike.check(alike, || about("twins"));
     let few = few_events(&before.file, &result);
     properties.events.check(few, || about("events"));
-    let grew = *call != Call::Establish && !none_grew(&before.book, &one.book);
-    properties.lengths.check(!grew, || about("lengths"));
     if refused_before_work(&result) {
         let same = *one == before;
         properties.unchanged.check(same, || about("changed"));
@@ -256,6 +248,7 @@ fn check_episode(
     random: &mut Random,
     properties: &mut Properties,
     of_events: &mut EventProperties,
+    of_lengths: &mut LengthProperties,
 ) {
     let scene = random_scene(random);
     let owner = Owner::of_scene(&scene);
@@ -279,6 +272,7 @@ fn check_episode(
             result: &result,
         };
         check_events(random, of_events, &made, &mut pair[0]);
+        check_lengths(of_lengths, &made, &pair[0]);
     }
 }
 
@@ -404,19 +398,17 @@ impl Properties {
             unchanged: Property::new("a call refused before work changes nothing"),
             alike: Property::new("demand 3: books alike give the same and stay alike"),
             events: Property::new("events are at most answers taken + P(L+1) + 1"),
-            lengths: Property::new("lengths never grow but at establish"),
             integers: Property::new("an integer put is got back"),
         }
     }
 
     /// The properties in the order in which they are told.
-    fn all(self) -> [Property; 6] {
+    fn all(self) -> [Property; 5] {
         [
             self.valid,
             self.unchanged,
             self.alike,
             self.events,
-            self.lengths,
             self.integers,
         ]
     }
@@ -427,17 +419,25 @@ pub fn check(seed: u64, episodes: u64) -> (u64, u64) {
     let mut properties = Properties::new();
     let mut of_spans = SpanProperties::new();
     let mut of_events = EventProperties::new();
+    let mut of_lengths = LengthProperties::new();
     for episode in 0..episodes {
         let mut random = Random::for_episode(seed, episode);
-        check_episode(&mut random, &mut properties, &mut of_events);
+        check_episode(
+            &mut random,
+            &mut properties,
+            &mut of_events,
+            &mut of_lengths,
+        );
         for _ in 0..3 {
             check_integer(&mut random, &mut properties.integers);
             check_pair(&mut random, &mut of_spans);
+            check_nights(&mut random, &mut of_lengths);
         }
     }
     let mut total = (0, 0);
     let all = properties.all().into_iter();
-    for property in all.chain(of_spans.all()).chain(of_events.all()) {
+    let of_changes = of_events.all().into_iter().chain(of_lengths.all());
+    for property in all.chain(of_spans.all()).chain(of_changes) {
         let Property {
             name,
             checks,

@@ -371,6 +371,28 @@ mod tests {
         }
     }
 
+    /// Whether a put of an episode takes the logical end of a compressible book back (C-13).
+    fn takes_end_back(episode: &Script) -> bool {
+        let mut player = Player::new();
+        let mut output = Vec::new();
+        episode.iter().any(|line| {
+            let end = player.first.logical_end;
+            player.play_line(line, &mut output);
+            let went_back = end.beyond(player.first.logical_end);
+            line.starts_with(b"put") && went_back && player.first.file.rights.compress
+        })
+    }
+
+    #[test]
+    fn the_end_goes_back_in_one_episode_of_ten() {
+        for books in [Books::One, Books::Two] {
+            let batch = make_batch(42, books, 0, 400);
+            let with = batch.episodes.iter().filter(|it| takes_end_back(it));
+            let count = with.count();
+            assert!(count >= 40, "{count}");
+        }
+    }
+
     #[test]
     fn a_row_stays_over_a_swap_and_serves_a_look() {
         let lines = make_batch(42, Books::Two, 0, 600).episodes.concat();

@@ -6,7 +6,8 @@ use crate::pairs::other_scene;
 use crate::random::Random;
 use crate::replay::{call_name, write_hex, write_position, Call, Player};
 use crate::scenes::{good_scene, Hints, Scene, Style, JUMP, LARGE};
-use crate::scenes::{hints_of, random_call, random_row, random_scene, random_target, random_text};
+use crate::scenes::{hints_of, random_call, random_put, random_row, random_scene};
+use crate::scenes::{random_target, random_text};
 use crate::spans::{differing_spans, Looked};
 
 /// A script, line by line, without the line feeds.
@@ -347,6 +348,46 @@ impl Maker<'_> {
         self.add("geti");
     }
 
+    /// A book that is written, and written again from the start on the next nights (C-13). Only
+    /// where the logical end can go back and lengths with it.
+    fn add_nights(&mut self) {
+        let rights = self.player.first.file.rights;
+        if !rights.put || !rights.reset || !rights.compress || rights.set {
+            return;
+        }
+        self.add_short_lines();
+        for _ in 0..self.random.between(1, 3) {
+            let start = self.random.pick(["reset", "reset", "open"]);
+            self.add(start);
+            let hints = self.hints();
+            let put = random_put(&mut self.random, &hints);
+            self.add_with_row(write_call(&put), &hints);
+            self.add_short_lines();
+        }
+    }
+
+    /// A few lines of a book, most of them short, now and then the last ones of their page.
+    fn add_short_lines(&mut self) {
+        for _ in 0..self.random.between(0, 3) {
+            let hints = self.hints();
+            let most = hints.file.shape.characters.min(40) as usize;
+            let length = self.random.below(most + 1);
+            let text = random_text(&mut self.random, hints.style, length);
+            self.add_with_row(format!("puts {}", write_hex(&text)), &hints);
+            let next = self.random.pick(["newline", "newline", "newpage"]);
+            self.add(next);
+        }
+    }
+
+    /// A call's line, now and then with a row before it.
+    fn add_with_row(&mut self, line: String, hints: &Hints) {
+        if self.random.chance(20) {
+            let row = random_row(&mut self.random, hints);
+            self.add_varied(write_row(&row));
+        }
+        self.add_varied(line);
+    }
+
     /// One call, and what may stand before and after it.
     fn add_slot(&mut self) {
         if self.random.chance(8) {
@@ -398,6 +439,9 @@ impl Maker<'_> {
         }
         if self.random.chance(2) {
             self.add_large_integer();
+        }
+        if self.random.chance(5) {
+            self.add_nights();
         }
         if self.random.rarely(1) && self.random.chance(30) {
             self.add_long_line();

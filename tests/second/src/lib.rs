@@ -7,6 +7,7 @@ pub mod checks;
 pub mod differ;
 pub mod episodes;
 pub mod event_checks;
+pub mod length_checks;
 pub mod pairs;
 pub mod random;
 pub mod refusals;

@@ -204,9 +204,19 @@ pub fn sizes_of(shape: Shape) -> (usize, usize, usize) {
     )
 }
 
-/// Any combination of rights, get and put together most often.
+/// Any combination of rights, get and put together most often; now and then those of a book
+/// that is written again every night, whose lengths come back (C-13).
 fn random_rights(random: &mut Random) -> Rights {
     let both = random.chance(70);
+    if random.chance(10) {
+        return Rights {
+            get: both,
+            put: true,
+            set: false,
+            reset: true,
+            compress: true,
+        };
+    }
     Rights {
         get: both || random.chance(50),
         put: both || random.chance(50),
@@ -629,7 +639,7 @@ fn random_length(random: &mut Random, hints: &Hints) -> usize {
 }
 
 /// Put calls; integers less often on lines that are too short for them.
-fn random_put(random: &mut Random, hints: &Hints) -> Call {
+pub fn random_put(random: &mut Random, hints: &Hints) -> Call {
     let short = hints.file.shape.characters < 11;
     match random.weighted([25, 50, if short { 5 } else { 35 }]) {
         0 if random.chance(25) => Call::PutCharacter(random.byte()),

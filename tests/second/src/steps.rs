@@ -1,8 +1,8 @@
 //! The steps of document 01 ("Events and answer rows" and "Steps"), one function for each.
 //! They run only on a record and a book that passed the tests of refusal 3.
 
-use crate::book::{in_bounds, line_index, line_length, page_length, text_index};
-use crate::book::{Book, File, Position};
+use crate::book::{established_line, established_page, in_bounds, line_index, line_length};
+use crate::book::{page_length, text_index, Book, File, Position};
 use crate::refusals::{Ending, Event, Refusal, Signalled};
 
 /// "Get calls turn read mood on and write mood off; put calls the reverse."
@@ -408,6 +408,32 @@ pub fn set_char_number(work: &mut Work, number: u32) -> Result<(), Ending> {
     Ok(())
 }
 
+/// C-13: "the line holding the new logical end, all later lines, that page and all later pages
+/// return to their established lengths. Nothing before the new end alters."
+fn restore_lengths_from_end(work: &mut Work) {
+    let shape = work.file.shape;
+    let end = work.book.logical_end;
+    let Some(first_line) = line_index(shape, end.page, end.line) else {
+        return;
+    };
+    if let Some(lengths) = work.book.line_lengths.get_mut(first_line..) {
+        lengths.fill(established_line(shape));
+    }
+    let first_page = (end.page - 1) as usize;
+    if let Some(lengths) = work.book.page_lengths.get_mut(first_page..) {
+        lengths.fill(established_page(shape));
+    }
+}
+
+/// "The end becomes the position", which is before it. "At that moment in a compressible book"
+/// lengths come back (C-13), and they hold for the next character of the same call already.
+fn take_end_back(work: &mut Work) {
+    work.book.logical_end = work.file.position;
+    if work.file.rights.compress {
+        restore_lengths_from_end(work);
+    }
+}
+
 /// "Store it, c+1. If the position is now beyond the logical end, the end becomes it.
 /// Otherwise, if the book lacks set and (page of end, line of end, 1) is beyond the position,
 /// the end becomes the position. Otherwise the end stays."
@@ -418,9 +444,10 @@ fn store_and_pass(work: &mut Work, byte: u8) {
     let position = work.file.position;
     let end = work.book.logical_end;
     let start_of_end_line = Position::new(end.page, end.line, 1);
-    let retract = !work.file.rights.set && start_of_end_line.beyond(position);
-    if position.beyond(end) || retract {
+    if position.beyond(end) {
         work.book.logical_end = position;
+    } else if !work.file.rights.set && start_of_end_line.beyond(position) {
+        take_end_back(work);
     }
 }
 

@@ -1,19 +1,19 @@
-use Rattle.strings.proofs.Parts.{some-of, run-short, run-there, put-one, put-more, put-goes, put-halts}
-use Rattle.stores.proofs.Smalls.{here-small}
-use Rattle.laws.proofs.Runs.{any-character}
-use Rattle.laws.proofs.Puts.{left-none}
-use Rattle.laws.proofs.Ways.{hands-on, outcome-is}
-use Rattle.rules.specs.Calls.{putCharacters}
-use Rattle.rules.specs.Ready.{Ready}
-use Rattle.rules.specs.Steps.{Action}
-use Rattle.rules.specs.Step.{doneBy}
-use Rattle.rules.specs.Book.{state}
-use lib.ListN.{length, drop}
-use Prim.Native.Nat.{_-_, _≤_}
-use native.Mathlib.Omega.{arith}
-use mathlib.Core.Path.{_≡_, refl, sym, _∙_}
-use borrow.Author.Tests.{not-true, not-false}
 use borrow.Author.Needs.{needs}
+use borrow.Author.Tests.{not-true, not-false}
+use mathlib.Core.Path.{_≡_, refl, sym, _∙_}
+use native.Mathlib.Omega.{arith}
+use Prim.Native.Nat.{_-_, _≤_}
+use lib.ListN.{length, drop}
+use Rattle.rules.specs.Book.{state}
+use Rattle.rules.specs.Step.{doneBy}
+use Rattle.rules.specs.Steps.{Action}
+use Rattle.rules.specs.Ready.{Ready}
+use Rattle.rules.specs.Calls.{putCharacters}
+use Rattle.laws.proofs.Ways.{hands-on, outcome-is}
+use Rattle.laws.proofs.Puts.{left-none}
+use Rattle.laws.proofs.Runs.{any-character}
+use Rattle.stores.proofs.Smalls.{here-small}
+use Rattle.strings.proofs.Parts.{some-of, run-short, run-there, put-one, put-more, put-goes, put-halts}
 use Rattle.strings.proofs.put_string.Statement.{statement}
 use Rattle.strings.proofs.put_string.Tie as tie
 
@@ -60,16 +60,16 @@ loop-again : tie.Need-loop-again Inv-loop μ-loop
 loop-again c = let x = (put-one (c .before .before .before .before .before .before .before .before .before .before .before .before .before .before .before .before .before .before .before .before .before .before .before .before .before .before .args .row .now) (c .before .before .before .before .before .before .before .before .before .before .before .before .before .before .before .before .before .before .before .before .before .before .before .before .before .before .args .bytes .now) (c .before .before .before .before .before .before .before .before .before .before .before .before .before .before .before .before .before .before .before .before .loop .i) (state (c .before .before .before .before .before .before .before .before .before .before .before .before .before .before .before .before .before .before .before .before .loop .here) (c .before .before .before .before .before .before .before .before .before .before .before .before .before .before .before .before .before .before .before .before .loop .lines) (c .before .before .before .before .before .before .before .before .before .before .before .before .before .before .before .before .before .before .before .before .loop .pages)) (c .before .before .before .before .before .before .before .before .before .before .before .before .before .before .before .before .before .before .before .before .loop .text) (c .before .before .before .before .before .before .before .before .before .before .before .before .before .before .before .before .before .before .before .before .loop .inv .0 .1) (c .before .before .before .before .before .before .before .before .before .before .before .before .before .before .before .before .before .before .before .loop-test .taken) refl (c .before .before .before .before .before .before .before .before .before .try-character .result) _ _ _ (c .before .before .before .before .before .before .before .before .before .try-character .ensures)) in let g = (sym (c .before .before .goes-on .ensures) ∙ not-false _ (c .before .if2 .left)) in ((c .before .before .before .before .before .before .before .before .before .before .before .before .before .before .before .before .before .before .before .before .loop .inv .0 .0 ∙ put-goes x g, x .ready g, x .within), c .before .before .before .before .before .before .before .before .before .try-character .kept .1 .1 .0 ∙ c .before .before .before .before .before .before .before .before .before .before .before .before .before .before .before .before .before .before .before .before .loop .inv .1, c .before .before .before .before .before .before .before .before .before .try-character .kept .1 .1 .1 .0 ∙ c .before .before .before .before .before .before .before .before .before .before .before .before .before .before .before .before .before .before .before .before .loop .inv .2, c .before .before .before .before .before .before .before .before .before .try-character .kept .1 .1 .1 .1 .0 ∙ c .before .before .before .before .before .before .before .before .before .before .before .before .before .before .before .before .before .before .before .before .loop .inv .3)
 
 store-some-requires : tie.Need-store-some-requires Inv-loop μ-loop
-store-some-requires c κs = (here-small (c .before .before .before .before .before .before .before .loop .inv .0 .1 .valid), (run-short (c .before .before .before .before .before .before .before .loop .inv .0 .1 .valid) (c .before .before .run-length .ensures .room) (omega arith), run-there (c .before .before .before .before .before .before .before .loop .inv .0 .1 .valid) (c .before .before .run-length .ensures .room) (omega arith) (c .before .if1 .left) refl, omega (arith, c .before .before .run-length .ensures .left, c .before .before .before .before .before .before .loop-test .taken)))
+store-some-requires c κs = (here-small (c .before .before .before .before .before .before .before .before .before .loop .inv .0 .1 .valid), (run-short (c .before .before .before .before .before .before .before .before .before .loop .inv .0 .1 .valid) (c .before .before .before .before .run-length .ensures .room) (omega arith), run-there (c .before .before .before .before .before .before .before .before .before .loop .inv .0 .1 .valid) (c .before .before .before .before .run-length .ensures .room) (omega arith) (c .before .before .before .if1 .left) refl, omega (arith, c .before .before .before .before .run-length .ensures .left, c .before .before .before .before .before .before .before .before .loop-test .taken)))
 
 add-i-2 : tie.Need-add-i-2 Inv-loop μ-loop
-add-i-2 c = omega (arith, c .before .before .before .before .before .run-length .ensures .left, c .before .before .before .before .before .before .before .before .before .loop-test .taken, c .before .before .before .before .before .before .before .before .before .before .before .before .before .before .before .before .good)
+add-i-2 c = omega (arith, c .before .before .before .before .before .before .before .before .before .before .before .run-length .ensures .left, c .before .before .before .before .before .before .before .before .before .before .before .before .before .before .before .loop-test .taken, c .before .before .before .before .before .before .before .before .before .before .before .before .before .before .before .before .before .before .before .before .before .before .good)
 
 loop-less-2 : tie.Need-loop-less-2 Inv-loop μ-loop
-loop-less-2 c = omega (arith, some-of (c .before .before .before .before .before .run-length .result) (c .before .before .before .before .if1 .left), c .before .before .before .before .before .run-length .ensures .left, c .before .before .before .before .before .before .before .before .before .loop-test .taken)
+loop-less-2 c = omega (arith, some-of (c .before .before .before .before .before .before .before .before .before .before .before .run-length .result) (c .before .before .before .before .before .before .before .before .before .before .if1 .left), c .before .before .before .before .before .before .before .before .before .before .before .run-length .ensures .left, c .before .before .before .before .before .before .before .before .before .before .before .before .before .before .before .loop-test .taken)
 
 loop-again-2 : tie.Need-loop-again-2 Inv-loop μ-loop
-loop-again-2 c = let y = (put-more (c .before .before .before .before .before .before .before .before .before .before .before .before .before .before .before .before .args .row .now) (c .before .before .before .before .before .before .before .before .before .before .before .before .before .before .before .before .args .bytes .now) (c .before .before .before .before .before .before .before .before .before .before .loop .i) (state (c .before .before .before .before .before .before .before .before .before .before .loop .here) (c .before .before .before .before .before .before .before .before .before .before .loop .lines) (c .before .before .before .before .before .before .before .before .before .before .loop .pages)) (c .before .before .before .before .before .before .before .before .before .before .loop .text) (c .before .before .before .before .before .before .before .before .before .before .loop .inv .0 .1) (c .before .before .before .before .before .before .before .before .before .loop-test .taken) (c .before .before .before .before .before .run-length .ensures .room) (omega arith) (c .before .before .before .before .before .run-length .ensures .left) (omega arith) (c .before .before .before .before .before .run-length .ensures .plain) (c .before .before .before .before .if1 .left) refl {o = doneBy (c .before .before .store-some .result)} (c .before .before .store-some .ensures .0) (c .before .before .store-some .ensures .1) refl) in ((c .before .before .before .before .before .before .before .before .before .before .loop .inv .0 .0 ∙ put-goes y refl, y .ready refl, y .within), c .before .before .store-some .kept .1 .1 .1 .1 .0 ∙ c .before .before .before .before .before .before .before .before .before .before .loop .inv .1, c .before .before .before .before .before .before .before .before .before .before .loop .inv .2, c .before .before .before .before .before .before .before .before .before .before .loop .inv .3)
+loop-again-2 c = let y = (put-more (c .before .before .before .before .before .before .before .before .before .before .before .before .before .before .before .before .before .before .before .before .before .before .args .row .now) (c .before .before .before .before .before .before .before .before .before .before .before .before .before .before .before .before .before .before .before .before .before .before .args .bytes .now) (c .before .before .before .before .before .before .before .before .before .before .before .before .before .before .before .before .loop .i) (state (c .before .before .before .before .before .before .before .before .before .before .before .before .before .before .before .before .loop .here) (c .before .before .before .before .before .before .before .before .before .before .before .before .before .before .before .before .loop .lines) (c .before .before .before .before .before .before .before .before .before .before .before .before .before .before .before .before .loop .pages)) (c .before .before .before .before .before .before .before .before .before .before .before .before .before .before .before .before .loop .text) (c .before .before .before .before .before .before .before .before .before .before .before .before .before .before .before .before .loop .inv .0 .1) (c .before .before .before .before .before .before .before .before .before .before .before .before .before .before .before .loop-test .taken) (c .before .before .before .before .before .before .before .before .before .before .before .run-length .ensures .room) (omega arith) (c .before .before .before .before .before .before .before .before .before .before .before .run-length .ensures .left) (omega arith) (c .before .before .before .before .before .before .before .before .before .before .before .run-length .ensures .plain) (c .before .before .before .before .before .before .before .before .before .before .if1 .left) refl {o = doneBy (c .before .before .before .before .before .before .store-some .result)} (c .before .before .before .before .before .before .store-some .ensures .0) (c .before .before .before .before .before .before .store-some .ensures .1) refl) in ((c .before .before .before .before .before .before .before .before .before .before .before .before .before .before .before .before .loop .inv .0 .0 ∙ put-goes y refl, y .ready refl, y .within), c .before .before .before .before .before .before .store-some .kept .1 .1 .1 .1 .0 ∙ c .before .before .before .before .before .before .before .before .before .before .before .before .before .before .before .before .loop .inv .1, c .before .before .before .before .before .before .store-some .kept .1 .1 .1 .1 .1 .0 ∙ c .before .before .before .before .before .before .before .before .before .before .before .before .before .before .before .before .loop .inv .2, c .before .before .before .before .before .before .store-some .kept .1 .1 .1 .1 .1 .1 .0 ∙ c .before .before .before .before .before .before .before .before .before .before .before .before .before .before .before .before .loop .inv .3)
 
 finish-requires : tie.Need-finish-requires Inv-loop μ-loop
 finish-requires c κs = search needs
