@@ -1,19 +1,21 @@
 -- Lengths that come back (document 02, C-13): from an index on they are the established ones, before it nothing alters, none gets
--- smaller, and none exceeds what was established. Assumes nothing.
+-- smaller, and none exceeds what was established; and what a cut before it leaves of that. Assumes nothing.
 use Prim.Native.Nat.{ℕ, zero, suc, _+_, _-_, _*_, _≤_, _<_}
 use native.Mathlib.Omega.{arith}
 use native.Mathlib.Nat.{mul-le-mul, suc-mul}
-use mathlib.Core.Path.{_≡_, refl, sym, ap, _∙_}
+use mathlib.Core.Path.{_≡_, refl, sym, ap, subst, _∙_}
 use mathlib.Core.Bool.{Bool, true, false}
 use mathlib.Core.List.{List, [], _∷_, _++_}
 use lib.Dec.{leb, leb→le}
-use lib.ListN.{length, getD, set, take, replicate, length-replicate, getD-replicate}
+use lib.ListN.{length, getD, set, take, replicate, length-set, length-replicate, getD-replicate}
+use lib.Seq.{getD-set-other}
 use borrow.Author.Tests.{le-leb}
 use Rattle.rules.specs.declared.Position.{Position}
 use Rattle.rules.specs.declared.Shape.{Shape}
 use Rattle.rules.specs.Book.{choose, Lengths, lengths, pageLength, lineIndex, lineLength}
 use Rattle.rules.specs.Step.{allFrom, restoredFrom}
 use Rattle.rules.specs.Ready.{InBounds}
+use Rattle.rules.specs.Rewritten.{EstablishedFrom}
 use Rattle.laws.proofs.Order.{split, is-yes}
 
 -- ---- one list
@@ -173,3 +175,42 @@ module _ (h : Shape) (x : Position) (f : Lengths) where
   pub earlier-page : {p : ℕ} → 1 ≤ p → p < x .page → pageLength (restoredFrom h x f .pages) p ≡ pageLength (f .pages) p
   unfolding restoredFrom pageLength
   earlier-page {p} a k = all-before (h .lines) (x .page - 1) (f .pages) (p - 1) (omega arith)
+
+-- ---- established from a line on
+
+pub restored-full : (h : Shape) (x : Position) (f : Lengths) → EstablishedFrom h x (restoredFrom h x f)
+unfolding restoredFrom
+restored-full h x f = record {
+  lines = λ k a b. all-after (h .characters) (lineIndex h (x .page) (x .line)) (f .lines) k a (subst (λ (n : ℕ). k < n) (length-all (h .characters) (lineIndex h (x .page) (x .line)) (f .lines)) b);
+  pages = λ k a b. all-after (h .lines) (x .page - 1) (f .pages) k a (subst (λ (n : ℕ). k < n) (length-all (h .lines) (x .page - 1) (f .pages)) b);
+}
+
+module _ {h : Shape} {y : Position} {f : Lengths} where
+  -- from a later line on too
+  pub full-later : {x : Position} → lineIndex h (x .page) (x .line) ≤ lineIndex h (y .page) (y .line) → x .page ≤ y .page → EstablishedFrom h x f → EstablishedFrom h y f
+  full-later a b e = record { lines = λ k c d. e .lines k (omega (arith, a, c)) d; pages = λ k c d. e .pages k (omega (arith, b, c)) d }
+
+  -- where a line, or a page, before them is cut
+  pub full-line-cut : (i n : ℕ) → i < lineIndex h (y .page) (y .line) → EstablishedFrom h y f → EstablishedFrom h y (lengths (set (f .lines) i n) (f .pages))
+  full-line-cut i n a e = record {
+    lines = λ k c d. getD-set-other (f .lines) i k n 0 (λ q. absurd (omega (arith, a, c, q))) ∙ e .lines k c (subst (λ (z : ℕ). k < z) (length-set (f .lines) i n) d);
+    pages = e .pages;
+  }
+
+  pub full-page-cut : (i n : ℕ) → i < y .page - 1 → EstablishedFrom h y f → EstablishedFrom h y (lengths (f .lines) (set (f .pages) i n))
+  full-page-cut i n a e = record {
+    lines = e .lines;
+    pages = λ k c d. getD-set-other (f .pages) i k n 0 (λ q. absurd (omega (arith, a, c, q))) ∙ e .pages k c (subst (λ (z : ℕ). k < z) (length-set (f .pages) i n) d);
+  }
+
+-- the next line and the next page of x begin after its line
+pub next-line-index : (h : Shape) (p l : ℕ) → 1 ≤ l → lineIndex h p l < lineIndex h p (l + 1)
+unfolding lineIndex
+next-line-index h p l o = omega (arith, o)
+
+pub next-page-index : (h : Shape) (p l : ℕ) → 1 ≤ p → l ≤ h .lines + 1 → lineIndex h p l ≤ lineIndex h (p + 1) 1
+unfolding lineIndex
+next-page-index h p l o k =
+    let a : p + 1 - 1 ≡ suc (p - 1) = omega (arith, o) in
+    let b : (p + 1 - 1) * h .lines ≡ (p - 1) * h .lines + h .lines = ap (λ (n : ℕ). n * h .lines) a ∙ suc-mul (p - 1) (h .lines) in
+    omega (arith, b, k)

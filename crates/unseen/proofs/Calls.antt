@@ -22,9 +22,10 @@ use Rattle.rules.specs.Steps.{Action, Gives, goodLine, newline, newpage, setTo,
 use Rattle.rules.specs.Whole.{wholeText, lowest}
 use Rattle.rules.specs.Calls.{Value, nothing, aCharacter, anInteger, aView, aString, begin, needRow, turnable, turn, putting, getting, established, establishing, opening, closing, resetting, backspacing, shown, shownLength, shownPart, orMarker, viewing, viewNumber, putCharacters, puttingString, putText, puttingInteger, takeCharacter, gettingCharacter, oneOf, stringCharacter, getCharacters, gettingString, firstDigit, withSign, integerGiven, signBefore, takeInteger, gettingInteger, inMoodOn, spacing, newlining, newpaging, settingCharacterNumber, setting, Plain, establishes, opens, closes, resets, backspaces, views, viewNumbers, Asking, putsCharacter, putsString, putsInteger, getsCharacter, getsInteger, spaces, newlines, newpages, getsString, sets, setsCharacterNumber, Call, plain, asking, plainWork, askingWork, work}
 use Rattle.rules.specs.Alike.{Seen}
+use Rattle.rules.specs.Rewritten.{shrank}
 use Rattle.laws.proofs.Order.{yes, and-l, and-r, not-and, neqb→neq, Lt, by-page, by-line, by-character, Le, le-page, le-line, le-character, before→Lt, Lt→before, nbefore→Le}
 use Rattle.laws.proofs.Entry.{all-getD, Legal, legal-facts, Sizes, sizes-facts, Fits, fits-facts}
-use Rattle.unseen.proofs.Sim.{Moods, Shrunk, Sound, Inv, fits, Vis, Alike, Agree, Rel, both, over, Sim, Any, Free, Safe, sim-pure, sim-halt, sim-refuse, sim-bind, sim-test, sim-branch, sim-look, sim-change, sim-weak, sim-attempt, from, given}
+use Rattle.unseen.proofs.Sim.{Moods, Sound, Inv, fits, Vis, Alike, Agree, Rel, both, over, Sim, Any, Free, Safe, sim-pure, sim-halt, sim-refuse, sim-bind, sim-test, sim-branch, sim-look, sim-change, sim-weak, sim-attempt, from, given}
 use Rattle.unseen.proofs.Moves.{Right, LineOk, sim-again, sim-need, sim-moodOn, sim-backspace, sim-reset}
 use Rattle.unseen.proofs.Texts.{sim-character}
 use Rattle.unseen.proofs.Bodies.{sim-passOk, sim-signals, sim-characterEvent, sim-space, sim-execute}
@@ -149,7 +150,7 @@ all-sound n s q =
     let v = fits-facts n s q in
     record {
       sound = record { legal-shape = v .legal-shape; rules = v .valid; pages = v .sizes .pages; lines = v .sizes .lines };
-      shrunk = λ _. record { lines = λ k. omega arith; pages = λ k. omega arith };
+      lengths = shrank (record { lines = λ k. omega arith; pages = λ k. omega arith });
       rights = refl;
       some = r;
       moods = record { one = a; get = b; put = c };
@@ -330,7 +331,7 @@ module _ (row : List ℕ) (s : State) where
 module _ (s : State) where
   loose-closing : LooseAt false s closing
   unfolding closing
-  loose-closing = loose-begin s (nothing-after (sim-change (λ s. onRun s (withFile (s .run) (fileOpened (s .run .file) false))) (λ s i q. record { sound = i .sound; shrunk = i .shrunk; rights = i .rights; some = i .some; moods = i .moods }) (λ s i q. tt) (λ s t t′ i q g. g)))
+  loose-closing = loose-begin s (nothing-after (sim-change (λ s. onRun s (withFile (s .run) (fileOpened (s .run .file) false))) (λ s i q. record { sound = i .sound; lengths = i .lengths; rights = i .rights; some = i .some; moods = i .moods }) (λ s i q. tt) (λ s t t′ i q g. g)))
 
   loose-resetting : LooseAt false s resetting
   unfolding resetting

@@ -1,6 +1,7 @@
--- What every call keeps: the book's rules, moods and position (document 01, "The book" and "The file record and its moods"), and that no
--- line or page length grows but at establish. Assumes nothing.
+-- What every call keeps: the book's rules, moods and position (document 01, "The book" and "The file record and its moods"); and which lengths
+-- can grow but at establish (document 02, C-13). Assumes nothing.
 use mathlib.Core.Path.{_≡_, refl, sym, ap, subst, _∙_}
+use mathlib.Core.Logic.{_≢_}
 use Prim.Native.Nat.{ℕ, zero, suc, _+_, _*_, _-_, _≤_, _<_}
 use native.Mathlib.Omega.{arith}
 use mathlib.Core.Bool.{Bool, true, false, not, _&&_, _||_}
@@ -18,10 +19,11 @@ use Rattle.rules.specs.Steps.{rank}
 use Rattle.rules.specs.Ready.{InBounds, Rules, Valid}
 use Rattle.rules.specs.Calls.{Value, nothing, aCharacter, anInteger, aView, aString, established, Plain, establishes, opens, closes, resets, backspaces, views, viewNumbers, Call, plain, asking, work, bufferOf, Book, After, enter, leave, call}
 use Rattle.rules.specs.Alike.{lengthsOf}
-use Rattle.laws.proofs.Order.{and-l, and-r, split, yes, is-yes}
+use Rattle.rules.specs.Rewritten.{Shrunk, Became, shrank, LengthsKept}
+use Rattle.laws.proofs.Order.{and-l, and-r, or-r, split, yes, is-yes}
 use Rattle.laws.proofs.Validity.{Near, near-at, near-end, near-in, before-true, in-bounds, line-length-le, page-length-le}
 use Rattle.laws.proofs.Entry.{all-getD, Legal, legal-facts, Sizes, sizes-facts}
-use Rattle.unseen.proofs.Sim.{Moods, Shrunk, regains, Inv}
+use Rattle.unseen.proofs.Sim.{Moods, Inv}
 use Rattle.unseen.proofs.Moves.{rewound-moods}
 use Rattle.unseen.proofs.Calls.{Loosely, Kept, unchanged, worked, reopened, begun, LRel, lboth, lover, growing, loose-work}
 
@@ -133,10 +135,6 @@ replicate-le zero x k = omega arith
 replicate-le (suc n) x zero = omega arith
 replicate-le (suc n) x (suc k) = replicate-le n x k
 
-or-r : (a b : Bool) → T b → T (a || b)
-or-r true b h = tt
-or-r false b h = h
-
 begun-facts : (n : ℕ) (s : State) → T (shapeFits n s) → T (rightsOf s .put) → Facts n (established s)
 unfolding shapeFits established
 begun-facts n s q r =
@@ -194,18 +192,26 @@ validity-kept k f b h =
     let a = call-left k f b in
     subst (λ (s : State). T (allFits (length (call k f b .book .text)) s)) (sym (a .leaves)) (fits-uncounted (length (call k f b .book .text)) (a .last) (kept-fits (a .kept) h))
 
-shrunk-none : (f : Lengths) → Shrunk f f
-shrunk-none f = record { lines = λ j. omega arith; pages = λ j. omega arith }
+kept-lengths : {s u : State} {n m : ℕ} → Kept s n false u m → Became (shapeOf u) (rightsOf s) (s .lengths) (endOf u) (u .lengths)
+kept-lengths unchanged = shrank (record { lines = λ j. omega arith; pages = λ j. omega arith })
+kept-lengths (worked i e) = i .lengths
+kept-lengths (reopened q) = shrank (record { lines = λ j. omega arith; pages = λ j. omega arith })
 
-kept-shrunk : {s u : State} {n m : ℕ} → T (not (regains (rightsOf s))) → Kept s n false u m → Shrunk (s .lengths) (u .lengths)
-kept-shrunk {s = s} r unchanged = shrunk-none (s .lengths)
-kept-shrunk r (worked i e) = i .shrunk r
-kept-shrunk {s = s} r (reopened q) = shrunk-none (s .lengths)
+-- only establish may
+not-growing : (k : Call) → k ≢ plain establishes → growing k ≡ false
+not-growing (plain establishes) n = absurd (n refl)
+not-growing (plain opens) n = refl
+not-growing (plain closes) n = refl
+not-growing (plain resets) n = refl
+not-growing (plain backspaces) n = refl
+not-growing (plain (views p l m)) n = refl
+not-growing (plain (viewNumbers p l)) n = refl
+not-growing (asking k row) n = refl
 
--- IN A BOOK THAT IS NOT COMPRESSIBLE OR HAS SET, NO LINE OR PAGE LENGTH GROWS BUT AT ESTABLISH. In any other one lengths come back where the
--- end goes back, and there alone (rules, Step: `lengthsAfter`); what is before stays (laws, Restored).
-pub lengths-kept : (k : Call) (f : File) (b : Book) → growing k ≡ false → T (not (regains (f .rights))) → Shrunk (lengthsOf b) (lengthsOf (call k f b .book))
-lengths-kept k f b e r =
+-- WHEN LENGTHS GROW: but at establish none does, unless they came back where the end went back; then all from the logical end's line and page
+-- on are as established
+pub lengths-kept : LengthsKept
+lengths-kept k f b n =
     let a = call-left k f b in
-    let x : Kept (enter f b) (length (b .text)) false (a .last) (length (call k f b .book .text)) = subst (λ (g : Bool). Kept (enter f b) (length (b .text)) g (a .last) (length (call k f b .book .text))) e (a .kept) in
-    subst (λ (s : State). Shrunk (lengthsOf b) (s .lengths)) (sym (a .leaves)) (kept-shrunk r x)
+    let x : Kept (enter f b) (length (b .text)) false (a .last) (length (call k f b .book .text)) = subst (λ (g : Bool). Kept (enter f b) (length (b .text)) g (a .last) (length (call k f b .book .text))) (not-growing k n) (a .kept) in
+    subst (λ (s : State). Became (shapeOf s) (f .rights) (lengthsOf b) (endOf s) (s .lengths)) (sym (a .leaves)) (kept-lengths x)

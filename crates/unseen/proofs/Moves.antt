@@ -58,15 +58,15 @@ module _ {R : Rights} {L : Lengths} where
   pub sim-move : {P : State → Type 0} (x : Run → Position) → ((s : State) → Inv R L s → P s → Rules (shapeOf s) (s .lengths) (x (s .run)) (endOf s))
       → Sim R L P (changeRun (λ r. movedTo r (x r))) Free
   sim-move x v = sim-change (λ s. onRun s (movedTo (s .run) (x (s .run))))
-      (λ s i q. record { sound = record { legal-shape = i .sound .legal-shape; rules = v s i q; pages = i .sound .pages; lines = i .sound .lines }; shrunk = i .shrunk; rights = i .rights; some = i .some; moods = i .moods })
+      (λ s i q. record { sound = record { legal-shape = i .sound .legal-shape; rules = v s i q; pages = i .sound .pages; lines = i .sound .lines }; lengths = i .lengths; rights = i .rights; some = i .some; moods = i .moods })
       (λ s i q. tt) (λ s t t′ i q g. g)
 
   pub sim-again : {P : State → Type 0} (reading : Bool) → Right R reading → Sim R L P (again reading) Free
-  sim-again reading h = sim-change (λ s. onRun s (inMood (s .run) reading)) (λ s i q. record { sound = i .sound; shrunk = i .shrunk; rights = i .rights; some = i .some; moods = mood-moods R reading h }) (λ s i q. tt) (λ s t t′ i q g. g)
+  sim-again reading h = sim-change (λ s. onRun s (inMood (s .run) reading)) (λ s i q. record { sound = i .sound; lengths = i .lengths; rights = i .rights; some = i .some; moods = mood-moods R reading h }) (λ s i q. tt) (λ s t t′ i q g. g)
 
   pub sim-signal : {P : State → Type 0} (event : Event) (row : List ℕ) → Sim R L P (signal event row) Free
   unfolding signal
-  sim-signal event row = record { sim = λ s t t′ i p g. both (record { sound = i .sound; shrunk = i .shrunk; rights = i .rights; some = i .some; moods = i .moods }) tt g }
+  sim-signal event row = record { sim = λ s t t′ i p g. both (record { sound = i .sound; lengths = i .lengths; rights = i .rights; some = i .some; moods = i .moods }) tt g }
 
   pub sim-size : {P : State → Type 0} → Sim R L P size (λ _. P)
   unfolding size pure
@@ -93,7 +93,7 @@ module _ {R : Rights} {L : Lengths} where
       (sim-test (λ s. s .run .file .writing) (sim-weak (λ s q. q .1) (λ a s q. q) (mood-is false)) (sim-halt (refusal 5)))
 
   end-inv : (s : State) → Inv R L s → Inv R L (onRun s (movedTo (s .run) (endOf s)))
-  end-inv s i = record { sound = record { legal-shape = i .sound .legal-shape; rules = end-valid s (i .sound .rules); pages = i .sound .pages; lines = i .sound .lines }; shrunk = i .shrunk; rights = i .rights; some = i .some; moods = i .moods }
+  end-inv s i = record { sound = record { legal-shape = i .sound .legal-shape; rules = end-valid s (i .sound .rules); pages = i .sound .pages; lines = i .sound .lines }; lengths = i .lengths; rights = i .rights; some = i .some; moods = i .moods }
 
   -- to the logical end: whatever is known; on its line, in a good page; on its page, in a good file
   pub sim-goToEnd : {P : State → Type 0} → Sim R L P goToEnd (λ _. AtEnd)
@@ -118,7 +118,7 @@ module _ {R : Rights} {L : Lengths} where
   unfolding reset
   sim-reset = sim-bind (sim-need 4 (λ s. rightsOf s .reset)) λ _.
       sim-change (λ s. onRun s (withFile (s .run) (rewound (s .run .file))))
-      (λ s i q. record { sound = record { legal-shape = i .sound .legal-shape; rules = first-valid s (i .sound .rules); pages = i .sound .pages; lines = i .sound .lines }; shrunk = i .shrunk; rights = i .rights; some = i .some; moods = subst (λ (r : Rights). Moods (not (r .put)) (not (r .get)) R) (sym (i .rights)) (rewound-moods R (i .some)) })
+      (λ s i q. record { sound = record { legal-shape = i .sound .legal-shape; rules = first-valid s (i .sound .rules); pages = i .sound .pages; lines = i .sound .lines }; lengths = i .lengths; rights = i .rights; some = i .some; moods = subst (λ (r : Rights). Moods (not (r .put)) (not (r .get)) R) (sym (i .rights)) (rewound-moods R (i .some)) })
       (λ s i q. tt) (λ s t t′ i q g. g)
 
   -- moves onwards

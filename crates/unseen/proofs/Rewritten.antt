@@ -131,7 +131,7 @@ module _ (f : File) (b b′ : Book) (n : FirstNight f b) (n′ : LaterNight f b�
   start-inv : Inv (f .rights) (lengthsOf b′) (writing f b′ (n′ .start))
   start-inv =
       let i = all-sound (length (b′ .text)) (enter f b′) (is-yes _ (n′ .start .fits)) in
-      record { sound = i .sound; shrunk = i .shrunk; rights = refl; some = i .some; moods = mood-moods (f .rights) false may }
+      record { sound = i .sound; lengths = i .lengths; rights = refl; some = i .some; moods = mood-moods (f .rights) false may }
 
   fresh-inv : Inv (f .rights) (lengthsOf b′) (fresh f)
   fresh-inv = subst (Inv (f .rights) (lengthsOf b′)) (later-comes f b′ n′) (stored-inv (writing f b′ (n′ .start)) start-inv (good f b′ (n′ .start) .1))

@@ -15,6 +15,7 @@ use Rattle.rules.specs.Book.{choose, Lengths, State, here, endOf, shapeOf, righ
 use Rattle.rules.specs.Step.{Ending, Out, done, ends, Step, _>>=_, pure, halt, refuseAt, look, change, test, branch, andThen, caught, attempt}
 use Rattle.rules.specs.Steps.{upon, rank}
 use Rattle.rules.specs.Ready.{Rules}
+use Rattle.rules.specs.Rewritten.{Became}
 use Rattle.laws.proofs.Order.{Lt, Le, le-page, le-line, le-character, Pos1, lt-or-ge}
 use Rattle.laws.proofs.Validity.{Near, near-at, near-end}
 use Rattle.laws.proofs.Entry.{Legal}
@@ -27,15 +28,6 @@ pub record Moods (reading writing : Bool) (R : Rights) : Type 0 where
   pub get : T (not reading || R .get)
   pub put : T (not writing || R .put)
 
--- no length is above what it was
-pub record Shrunk (L f : Lengths) : Type 0 where
-  pub lines : (k : ℕ) → getD (f .lines) k 0 ≤ getD (L .lines) k 0
-  pub pages : (k : ℕ) → getD (f .pages) k 0 ≤ getD (L .pages) k 0
-
--- whether lengths can come back: "in a compressible book", "if the book lacks set"
-abbrev pub regains : Rights → Bool
-regains R = R .compress && not (R .«set»)
-
 -- over shape, lengths, end and position
 pub record Sound (h : Shape) (f : Lengths) (end at : Position) : Type 0 where
   pub legal-shape : Legal h
@@ -45,7 +37,7 @@ pub record Sound (h : Shape) (f : Lengths) (end at : Position) : Type 0 where
 
 pub record Inv (R : Rights) (L : Lengths) (s : State) : Type 0 where
   pub sound : Sound (shapeOf s) (s .lengths) (endOf s) (here s)
-  pub shrunk : T (not (regains R)) → Shrunk L (s .lengths)
+  pub lengths : Became (shapeOf s) R L (endOf s) (s .lengths)
   pub rights : rightsOf s ≡ R
   pub some : T (R .get || R .put)
   pub moods : Moods (s .run .file .reading) (s .run .file .writing) R

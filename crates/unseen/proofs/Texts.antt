@@ -15,11 +15,12 @@ use Rattle.rules.specs.declared.Rights.{Rights}
 use Rattle.rules.specs.Book.{choose, place, before, nextCharacter, nextLine, nextPage, Lengths, lengths, State, here, endOf, shapeOf, rightsOf, lineHere, bothMovedTo, pageLength, lineIndex, lineLength, characterIndex}
 use Rattle.rules.specs.Step.{done, ends, Step, _>>=_, andThen, pure, change, changeRun, test, branch, fileEnded, pageEnded, lineEnded, characterHere, goesBack, restoredFrom, cameTo, store, blanks, blankLine, blankLines, cutLine, fillLine, endLine, cutPage, fillPage, endPage}
 use Rattle.rules.specs.Ready.{Rules}
-use Rattle.laws.proofs.Order.{no, is-yes, lt-or-ge, not-not, Lt, by-page, by-line, by-character, Le, Same, Pos1, before→Lt, Lt-Le, lt-next, le-split, set-keep, set-hit, set-le, set-shrinks}
-use Rattle.laws.proofs.Restored.{length-all, Earlier, on-page, on-earlier, earlier-line, earlier-page}
+use Rattle.rules.specs.Rewritten.{Shrunk, regains, EstablishedFrom, Became, shrank, cameBack}
+use Rattle.laws.proofs.Order.{and-l, and-i, no, is-yes, lt-or-ge, not-not, Lt, by-page, by-line, by-character, Le, Same, Pos1, before→Lt, Lt-Le, lt-next, le-split, set-keep, set-hit, set-le, set-shrinks}
+use Rattle.laws.proofs.Restored.{length-all, Earlier, on-page, on-earlier, earlier-line, earlier-page, restored-full, full-later, full-line-cut, full-page-cut, next-line-index, next-page-index}
 use Rattle.laws.proofs.Validity.{page-length-le, cut-line-fits, cut-page-fits, next-line-both, next-page-both}
 use Rattle.laws.proofs.Walk.{stored-rules}
-use Rattle.unseen.proofs.Sim.{Shrunk, regains, Inv, ordered, here1, Vis, Alike, Agree, Rel, both, Sim, Free}
+use Rattle.unseen.proofs.Sim.{Inv, ordered, here1, Vis, Alike, Agree, Rel, both, Sim, Free}
 use Rattle.unseen.proofs.Moves.{AtEnd, FileOk, LineOk}
 
 pub ok-before : (s : State) → FileOk true s → T (before (here s) (endOf s))
@@ -112,14 +113,6 @@ module _ (h : Shape) (f : Lengths) (x : Position) where
   sizes-kept true = (length-all (h .lines) (x .page - 1) (f .pages), length-all (h .characters) (lineIndex h (x .page) (x .line)) (f .lines))
   sizes-kept false = (refl, refl)
 
-  -- no length comes back in a book with set, or that is not compressible
-  none-back : (a q c m : Bool) → T (not (c && not m)) → choose (not a && ((not m && q) && c)) (restoredFrom h x f) f ≡ f
-  none-back true q c m n = refl
-  none-back false q c true n = refl
-  none-back false q true false n = absurd n
-  none-back false true false false n = refl
-  none-back false false false false n = refl
-
 -- a, the position is beyond the end; b, the end goes back; c, the book is compressible
 stored-alike : (a b c : Bool) (s : State) (t t′ : List ℕ) (n : ℕ) {R : Rights} {L : Lengths} → Inv R L s → lineEnded s ≡ false → Agree s t t′
     → Alike (shapeOf s) (choose (not a && (b && c)) (restoredFrom (shapeOf s) (nextCharacter (here s)) (s .lengths)) (s .lengths)) (choose a (nextCharacter (here s)) (choose b (nextCharacter (here s)) (endOf s)))
@@ -129,6 +122,34 @@ stored-alike false true true s t t′ n i q g = back-alike (here s) n (i .sound 
 stored-alike false true false s t t′ n i q g = set-alike (here s) _ n g (stored-before (here s) (endOf s) _ (ordered (i .sound)) (inl refl))
 stored-alike false false c s t t′ n i q g = set-alike (here s) _ n g (stored-before (here s) (endOf s) _ (ordered (i .sound)) (inr refl))
 
+-- where the position is beyond the end now, it was at the end, and stays on its line
+beyond-end : (x end : Position) → Le x end → T (before end (nextCharacter x)) → Same end x
+beyond-end x end o b = elim (lt-next end x (before→Lt end (nextCharacter x) b)) [ inl m ↦ absurd (never end (Lt-Le end x end m o)) | inr m ↦ m ]
+  where
+    never : (y : Position) → Lt y y → ⊥
+    never y (by-page h) = omega arith
+    never y (by-line e h) = omega arith
+    never y (by-character e l h) = omega arith
+
+-- lengths that came back stay so as the end moves on
+became-later : {h : Shape} {R : Rights} {L f : Lengths} (end x : Position) → lineIndex h (end .page) (end .line) ≤ lineIndex h (x .page) (x .line) → end .page ≤ x .page → Became h R L end f → Became h R L x f
+became-later end x a b (shrank k) = shrank k
+became-later end x a b (cameBack r e) = cameBack r (full-later a b e)
+
+-- a, the position is beyond the end; b, the end goes back; c, the book is compressible
+stored-became : (a b c : Bool) (s : State) {R : Rights} {L : Lengths} → Inv R L s → (T a → Same (endOf s) (here s)) → (T b → T (not (rightsOf s .«set»))) → rightsOf s .compress ≡ c
+    → Became (shapeOf s) R L (choose a (nextCharacter (here s)) (choose b (nextCharacter (here s)) (endOf s))) (choose (not a && (b && c)) (restoredFrom (shapeOf s) (nextCharacter (here s)) (s .lengths)) (s .lengths))
+stored-became true b c s i m n e =
+    let k : lineIndex (shapeOf s) (endOf s .page) (endOf s .line) ≡ lineIndex (shapeOf s) (here s .page) (here s .line) = cc (m tt .page, m tt .line) in
+    became-later (endOf s) (nextCharacter (here s)) (omega (arith, k)) (omega (arith, m tt .page)) (i .lengths)
+stored-became false true true s i m n e = cameBack (subst (λ (r : Rights). T (regains r)) (i .rights) (and-i (rightsOf s .compress) (not (rightsOf s .«set»)) (is-yes _ e) (n tt))) (restored-full (shapeOf s) (nextCharacter (here s)) (s .lengths))
+stored-became false true false s {R} i m n e = go (i .lengths)
+  where
+    go : {h : Shape} {L f : Lengths} {y x : Position} → Became h R L y f → Became h R L x f
+    go (shrank k) = shrank k
+    go (cameBack r w) = absurd (subst (λ (b : Bool). T b) e (and-l (rightsOf s .compress) _ (subst (λ (r : Rights). T (regains r)) (sym (i .rights)) r)))
+stored-became false false c s i m n e = i .lengths
+
 pub stored-inv : {R : Rights} {L : Lengths} (s : State) → Inv R L s → lineEnded s ≡ false → Inv R L (cameTo s (nextCharacter (here s)))
 stored-inv {L = L} s i q =
     let x = nextCharacter (here s) in
@@ -137,7 +158,7 @@ stored-inv {L = L} s i q =
     let sizes = sizes-kept (shapeOf s) (s .lengths) x (not beyond && (back && rightsOf s .compress)) in
     record {
       sound = record { legal-shape = i .sound .legal-shape; rules = stored-rules beyond back (rightsOf s .compress) s (i .sound .rules) q refl; pages = sizes .0 ∙ i .sound .pages; lines = sizes .1 ∙ i .sound .lines };
-      shrunk = λ n. subst (Shrunk L) (sym (none-back (shapeOf s) (s .lengths) x beyond (before x (place (endOf s .page) (endOf s .line) 1)) (rightsOf s .compress) (rightsOf s .«set») (subst (λ (r : Rights). T (not (regains r))) (sym (i .rights)) n))) (i .shrunk n);
+      lengths = stored-became beyond back (rightsOf s .compress) s i (beyond-end (here s) (endOf s) (ordered (i .sound))) (λ k. and-l (not (rightsOf s .«set»)) _ k) refl;
       rights = i .rights;
       some = i .some;
       moods = i .moods;
@@ -238,11 +259,15 @@ len-le h f p l = there-le (leb l (pageLength (f .pages) p)) _
 abbrev startOf : State → Lengths → Position → State
 startOf s f x = record { run = bothMovedTo (s .run) x; lengths = f }
 
+became-cut : {h : Shape} {R : Rights} {L f₀ f : Lengths} {end x : Position} → Shrunk f₀ f → (EstablishedFrom h end f₀ → EstablishedFrom h x f) → Became h R L end f₀ → Became h R L x f
+became-cut k m (shrank l) = shrank (record { lines = λ j. omega (arith, k .lines j, l .lines j); pages = λ j. omega (arith, k .pages j, l .pages j) })
+became-cut k m (cameBack r e) = cameBack r (m e)
+
 both-inv : {R : Rights} {L : Lengths} (s : State) (f : Lengths) (x : Position) → Inv R L s → Rules (shapeOf s) f x x → length (f .pages) ≡ length (s .lengths .pages) → length (f .lines) ≡ length (s .lengths .lines)
-    → Shrunk (s .lengths) f → Inv R L (startOf s f x)
-both-inv s f x i r a b k = record {
+    → Shrunk (s .lengths) f → (EstablishedFrom (shapeOf s) (endOf s) (s .lengths) → EstablishedFrom (shapeOf s) x f) → Inv R L (startOf s f x)
+both-inv s f x i r a b k m = record {
   sound = record { legal-shape = i .sound .legal-shape; rules = r; pages = a ∙ i .sound .pages; lines = b ∙ i .sound .lines };
-  shrunk = λ n. record { lines = λ j. omega (arith, k .lines j, i .shrunk n .lines j); pages = λ j. omega (arith, k .pages j, i .shrunk n .pages j) };
+  lengths = became-cut k m (i .lengths);
   rights = i .rights;
   some = i .some;
   moods = i .moods;
@@ -323,6 +348,17 @@ cut-shrunk h f x k = record { lines = λ j. set-shrinks (f .lines) (lineIndex h 
 at-here : (s : State) (t t′ : List ℕ) → AtEnd s → Agree s t t′ → Alike (shapeOf s) (s .lengths) (here s) t t′
 at-here s t t′ q g = subst (λ (e : Position). Alike (shapeOf s) (s .lengths) e t t′) (sym q) g
 
+-- the end at the position
+full-here : (s : State) → AtEnd s → EstablishedFrom (shapeOf s) (endOf s) (s .lengths) → EstablishedFrom (shapeOf s) (here s) (s .lengths)
+full-here s q e = subst (λ (x : Position). EstablishedFrom (shapeOf s) x (s .lengths)) (sym q) e
+
+-- lengths that came back, where the end moves from x to the next line, and the line of x may be cut
+full-next-line : (h : Shape) (f : Lengths) (x : Position) → Pos1 x → EstablishedFrom h x f → EstablishedFrom h (nextLine x) f
+full-next-line h f x o e = full-later (omega (arith, next-line-index h (x .page) (x .line) (o .line))) (omega arith) e
+
+full-line-cut-there : (h : Shape) (f : Lengths) (x : Position) → Pos1 x → EstablishedFrom h x f → EstablishedFrom h (nextLine x) (cut h f x)
+full-line-cut-there h f x o e = full-line-cut (lineIndex h (x .page) (x .line)) (x .character - 1) (next-line-index h (x .page) (x .line) (o .line)) (full-next-line h f x o e)
+
 module _ {R : Rights} {L : Lengths} where
   here-fits : (s : State) → Inv R L s → here s .character ≤ lineLength (shapeOf s) (s .lengths) (here s .page) (here s .line) + 1
   here-fits s i = i .sound .rules .at-in .character-high
@@ -334,11 +370,11 @@ module _ {R : Rights} {L : Lengths} where
   endLine-case true s t t′ i q p g =
       let h = shapeOf s in let f = s .lengths in let x = here s in
       let k = here-fits s i in
-      both (both-inv s (cut h f x) (nextLine x) i (next-line-both s (i .sound .rules) _ (cut-line-fits s (i .sound .rules)) (no _ p)) refl (length-set (f .lines) (lineIndex h (x .page) (x .line)) (x .character - 1)) (cut-shrunk h f x k)) tt
+      both (both-inv s (cut h f x) (nextLine x) i (next-line-both s (i .sound .rules) _ (cut-line-fits s (i .sound .rules)) (no _ p)) refl (length-set (f .lines) (lineIndex h (x .page) (x .line)) (x .character - 1)) (cut-shrunk h f x k) (λ e. full-line-cut-there h f x (here1 (i .sound)) (full-here s q e))) tt
       (shrunk (cut h f x) (nextLine x) (λ y v. cutline-vis h f x y (here1 (i .sound)) k v) (at-here s t t′ q g))
   endLine-case false s t t′ i q p g =
       let f = s .lengths in let x = here s in
-      both (both-inv s f (nextLine x) i (next-line-both s (i .sound .rules) _ (i .sound .rules .line-fits) (no _ p)) refl refl (not-shrunk f)) tt (filled x (at-here s t t′ q g))
+      both (both-inv s f (nextLine x) i (next-line-both s (i .sound .rules) _ (i .sound .rules .line-fits) (no _ p)) refl refl (not-shrunk f) (λ e. full-next-line (shapeOf s) f x (here1 (i .sound)) (full-here s q e))) tt (filled x (at-here s t t′ q g))
 
   pub sim-endLine : Sim R L (λ s. AtEnd s × T (not (pageEnded (s .run) (s .lengths .pages)))) endLine Free
   unfolding endLine _>>=_ test
@@ -440,7 +476,19 @@ cutBoth-shrunk h f x o l k = record {
   pages = λ j. set-shrinks (f .pages) (x .page - 1) j (cutLen x) (elim (one-or x o) [ inl m ↦ omega (arith, m .1) | inr m ↦ omega (arith, m, l) ]);
 }
 
+-- lengths that came back, where the end moves to the next page, and the line and the page of x may be cut
+full-next-page : (h : Shape) (f : Lengths) (x : Position) → Pos1 x → x .line ≤ h .lines + 1 → EstablishedFrom h x f → EstablishedFrom h (nextPage x) f
+full-next-page h f x o k e = full-later (next-page-index h (x .page) (x .line) (o .page) k) (omega arith) e
+
+full-page-cut-there : (h : Shape) (f : Lengths) (x : Position) → Pos1 x → x .line ≤ h .lines → EstablishedFrom h x f → EstablishedFrom h (nextPage x) (cutBoth h f x)
+full-page-cut-there h f x o k e = full-page-cut (x .page - 1) (cutLen x) (omega (arith, o .page))
+    (full-line-cut (lineIndex h (x .page) (x .line)) (x .character - 1) (omega (arith, next-line-index h (x .page) (x .line) (o .line), next-page-index h (x .page) (x .line + 1) (o .page) (omega (arith, k)))) (full-next-page h f x o (omega (arith, k)) e))
+
 module _ {R : Rights} {L : Lengths} where
+  -- the position's line is at most one after the last of its page
+  line-high : (s : State) → Inv R L s → here s .line ≤ shapeOf s .lines + 1
+  line-high s i = omega (arith, i .sound .rules .at-in .line-high, page-length-le (shapeOf s) (s .lengths) (here s .page) (i .sound .rules .page-fits))
+
   cutPage-case : (c : Bool) (s : State) (t t′ : List ℕ) → Inv R L s → AtEnd s → here s .page ≤ shapeOf s .pages → Agree s t t′
       → (T c → T (pageEnded (s .run) (s .lengths .pages))) → (T (not c) → T (not (pageEnded (s .run) (s .lengths .pages))))
       → Rel R L {A = Unit {0}} Free (andThen (λ _. turnPage) (branch c (pure tt) (change cutLine >>= λ _. change cutPage) s t))
@@ -448,14 +496,14 @@ module _ {R : Rights} {L : Lengths} where
   unfolding branch change cutLine cutPage pure _>>=_ cutLen
   cutPage-case true s t t′ i q p g a b =
       let h = shapeOf s in let f = s .lengths in let x = here s in
-      both (both-inv s f (nextPage x) i (next-page-both s (i .sound .rules) _ (i .sound .rules .line-fits) (i .sound .rules .page-fits) p) refl refl (not-shrunk f)) tt
+      both (both-inv s f (nextPage x) i (next-page-both s (i .sound .rules) _ (i .sound .rules .line-fits) (i .sound .rules .page-fits) p) refl refl (not-shrunk f) (λ e. full-next-page h f x (here1 (i .sound)) (line-high s i) (full-here s q e))) tt
       (shrunk f (nextPage x) (λ y v. fullpage-vis h f x y (ltb→lt _ _ (a tt)) v) (at-here s t t′ q g))
   cutPage-case false s t t′ i q p g a b =
       let h = shapeOf s in let f = s .lengths in let x = here s in
       let k = here-fits s i in
       let l = nltb→le _ _ (b tt) in
       both (both-inv s (cutBoth h f x) (nextPage x) i (next-page-both s (i .sound .rules) _ (cut-line-fits s (i .sound .rules)) (cut-page-fits s (i .sound .rules) (no _ (b tt))) p)
-      (length-set (f .pages) (x .page - 1) (cutLen x)) (length-set (f .lines) (lineIndex h (x .page) (x .line)) (x .character - 1)) (cutBoth-shrunk h f x (here1 (i .sound)) l k)) tt
+      (length-set (f .pages) (x .page - 1) (cutLen x)) (length-set (f .lines) (lineIndex h (x .page) (x .line)) (x .character - 1)) (cutBoth-shrunk h f x (here1 (i .sound)) l k) (λ e. full-page-cut-there h f x (here1 (i .sound)) (omega (arith, l, page-length-le h f (x .page) (i .sound .rules .page-fits))) (full-here s q e))) tt
       (shrunk (cutBoth h f x) (nextPage x) (λ y v. cutpage-vis h f x y (here1 (i .sound)) l k v) (at-here s t t′ q g))
 
   endPage-case : (b : Bool) (s : State) (t t′ : List ℕ) → Inv R L s → AtEnd s → here s .page ≤ shapeOf s .pages → Agree s t t′
@@ -465,7 +513,7 @@ module _ {R : Rights} {L : Lengths} where
   endPage-case true s t t′ i q p g = cutPage-case (pageEnded (s .run) (s .lengths .pages)) s t t′ i q p g (λ k. k) (λ k. k)
   endPage-case false s t t′ i q p g =
       let f = s .lengths in let x = here s in
-      both (both-inv s f (nextPage x) i (next-page-both s (i .sound .rules) _ (i .sound .rules .line-fits) (i .sound .rules .page-fits) p) refl refl (not-shrunk f)) tt (blanked x (at-here s t t′ q g))
+      both (both-inv s f (nextPage x) i (next-page-both s (i .sound .rules) _ (i .sound .rules .line-fits) (i .sound .rules .page-fits) p) refl refl (not-shrunk f) (λ e. full-next-page (shapeOf s) f x (here1 (i .sound)) (line-high s i) (full-here s q e))) tt (blanked x (at-here s t t′ q g))
 
   pub sim-endPage : Sim R L (λ s. AtEnd s × (here s .page ≤ shapeOf s .pages)) endPage Free
   unfolding endPage _>>=_ test
