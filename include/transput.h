@@ -199,7 +199,8 @@ transput_result transput_reset(transput_file *file, transput_position end, const
 transput_result transput_backspace(transput_file *file, transput_position end, const uint8_t *text, size_t text_length,
     const uint8_t *lines, size_t lines_length, const uint8_t *pages, size_t pages_length);
 
-/* Puts a character. At a line end the default is a newline. */
+/* Puts a character. At a line end the default is a newline. In a book with compress and without set, a character that takes the
+ * logical end back, here and in the puts below, gives the line and the page of the new end and all later ones their full lengths. */
 transput_result transput_put_character(transput_file *file, transput_position end, uint8_t b, uint8_t *text, size_t text_length,
     uint8_t *lines, size_t lines_length, uint8_t *pages, size_t pages_length, const uint32_t *row, size_t row_length);
 
