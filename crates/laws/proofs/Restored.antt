@@ -176,6 +176,11 @@ module _ (h : Shape) (x : Position) (f : Lengths) where
   unfolding restoredFrom pageLength
   earlier-page {p} a k = all-before (h .lines) (x .page - 1) (f .pages) (p - 1) (omega arith)
 
+-- "Nothing before the new end alters": every earlier line that its page had is as long as it was
+pub earlier-same : (h : Shape) (x : Position) (f : Lengths) → ((k : ℕ) → getD (f .lines) k 0 ≤ h .characters) → ((k : ℕ) → getD (f .pages) k 0 ≤ h .lines)
+    → (p l : ℕ) → 1 ≤ p → 1 ≤ l → Earlier h x p l → l ≤ pageLength (f .pages) p → lineLength h (restoredFrom h x f) p l ≡ lineLength h f p l
+earlier-same h x f fl fp p l a b e k = omega (arith, earlier-line h x f a b e k, line-grown h (restored-grown h x f fl fp) p l)
+
 -- ---- established from a line on
 
 pub restored-full : (h : Shape) (x : Position) (f : Lengths) → EstablishedFrom h x (restoredFrom h x f)
