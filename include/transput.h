@@ -64,12 +64,13 @@ typedef struct transput_file {
     bool opened;
     bool reading; /* read mood */
     bool writing; /* write mood */
+    bool split;   /* a string that does not fit on its line is split there, as the Report has it; else it is refused with 16 */
     transput_rights rights;
 } transput_file;
 
 /* What a call hands back beside the record. */
 typedef struct transput_result {
-    uint8_t number;        /* one of TRANSPUT_DONE .. TRANSPUT_PHYSICAL_END_UNMENDED */
+    uint8_t number;        /* one of TRANSPUT_DONE .. TRANSPUT_STRING_DOES_NOT_FIT */
     uint8_t stop;          /* why a get of a string stopped, one of TRANSPUT_NO_STOP .. TRANSPUT_OUTPUT_FULL */
     uint8_t given;         /* one of TRANSPUT_NOTHING, TRANSPUT_CHARACTER, TRANSPUT_INTEGER */
     uint8_t event;         /* the event that a refusal ended in, one of TRANSPUT_EVENT_NONE .. TRANSPUT_EVENT_VALUE */
@@ -111,8 +112,8 @@ typedef struct transput_differences {
 } transput_differences;
 
 /* The number of a call: 0, or why it was refused. A refusal before work changes nothing; one during work, 4 and 5 inside an
- * answer too, leaves the steps that were done. With 8, 11, 14 and 15 goes the event that ended the call, with 9 too where an integer
- * was read, and with no other. 7 is retired: it was 14 and 15 in one; 13 is not used yet. */
+ * answer too, leaves the steps that were done. With 8, 11, 14, 15 and 16 goes the event that ended the call, with 9 too where an
+ * integer was read, and with no other. 7 is retired: it was 14 and 15 in one; 13 is not used yet. */
 enum {
     TRANSPUT_DONE = 0,
     TRANSPUT_NOT_OPEN = 1,
@@ -127,7 +128,8 @@ enum {
     TRANSPUT_JUMPED = 11,           /* an answer of kind 8: the program jumped away */
     TRANSPUT_OUTPUT_TOO_SHORT = 12, /* the output lent to whole, or the list lent to differ */
     TRANSPUT_LOGICAL_END_UNMENDED = 14, /* the logical end was met, and no answer mended it */
-    TRANSPUT_PHYSICAL_END_UNMENDED = 15 /* the physical end was met, and no answer mended it */
+    TRANSPUT_PHYSICAL_END_UNMENDED = 15, /* the physical end was met, and no answer mended it */
+    TRANSPUT_STRING_DOES_NOT_FIT = 16    /* the line ended in a put of a string, and neither an answer nor the choice split it */
 };
 
 /* The events. Where an event inside an answer ended the call, that one is told. */
@@ -178,12 +180,12 @@ static inline uint32_t transput_answer(uint32_t kind, uint32_t page, uint32_t li
  * both records first, and then one book after the other. Calls that take the lengths as const leave the logical end as it is; so
  * does every call that is refused before work. */
 
-/* Establishes a book over lent memory: every length full, the end and the position (1,1,1), write mood. No character is wiped,
- * and the logical end that is passed is not looked at. */
+/* Establishes a book over lent memory: every length full, the end and the position (1,1,1), write mood, no split. No character is
+ * wiped, and the logical end that is passed is not looked at. */
 transput_result transput_establish(transput_file *file, transput_position end, const uint8_t *text, size_t text_length,
     uint8_t *lines, size_t lines_length, uint8_t *pages, size_t pages_length);
 
-/* Opens a book with the logical end that it has. */
+/* Opens a book with the logical end that it has; no split. */
 transput_result transput_open(transput_file *file, transput_position end, const uint8_t *text, size_t text_length,
     const uint8_t *lines, size_t lines_length, const uint8_t *pages, size_t pages_length);
 
@@ -191,7 +193,12 @@ transput_result transput_open(transput_file *file, transput_position end, const 
 transput_result transput_close(transput_file *file, transput_position end, const uint8_t *text, size_t text_length,
     const uint8_t *lines, size_t lines_length, const uint8_t *pages, size_t pages_length);
 
-/* Resets the record to (1,1,1), with its moods by its rights. */
+/* Chooses what becomes of a string that does not fit on its line: with split it goes on in the next line, as the Report has it;
+ * without, which is what establish and open choose, it is refused with 16, and what was stored stays. Needs no right and no mood. */
+transput_result transput_choose(transput_file *file, transput_position end, bool split, const uint8_t *text, size_t text_length,
+    const uint8_t *lines, size_t lines_length, const uint8_t *pages, size_t pages_length);
+
+/* Resets the record to (1,1,1), with its moods by its rights. The choice stays. */
 transput_result transput_reset(transput_file *file, transput_position end, const uint8_t *text, size_t text_length,
     const uint8_t *lines, size_t lines_length, const uint8_t *pages, size_t pages_length);
 
@@ -204,7 +211,8 @@ transput_result transput_backspace(transput_file *file, transput_position end, c
 transput_result transput_put_character(transput_file *file, transput_position end, uint8_t b, uint8_t *text, size_t text_length,
     uint8_t *lines, size_t lines_length, uint8_t *pages, size_t pages_length, const uint32_t *row, size_t row_length);
 
-/* Puts the characters of a string in turn; an empty one only turns the mood. */
+/* Puts the characters of a string in turn; an empty one only turns the mood. At a line end the default is by the record's choice: a
+ * newline with split, else refusal 16. */
 transput_result transput_put_string(transput_file *file, transput_position end, const uint8_t *bytes, size_t bytes_length,
     uint8_t *text, size_t text_length, uint8_t *lines, size_t lines_length, uint8_t *pages, size_t pages_length,
     const uint32_t *row, size_t row_length);

@@ -53,6 +53,7 @@ pub fn make<L: Layer>(call: &Call, scene: &mut Scene, row: &[u32]) -> Reply {
         Call::Establish => Some(L::establish(file, book)),
         Call::Open => Some(L::open(file, book)),
         Call::Close => Some(L::close(file, book)),
+        Call::Choose(split) => Some(L::choose(file, book, *split)),
         Call::Reset => Some(L::reset(file, book)),
         Call::Backspace => Some(L::backspace(file, book)),
         Call::PutCharacter(byte) => Some(L::put_character(file, book, *byte, row)),
@@ -114,7 +115,7 @@ fn differs<L: Layer>(
 #[derive(Default)]
 pub struct Tally {
     pub calls: u64,
-    pub numbers: [u64; 16],
+    pub numbers: [u64; 17],
 }
 
 /// Plays so many random scripts on all sides.

@@ -50,6 +50,8 @@ pub struct File {
     pub opened: bool,
     pub reading: bool,
     pub writing: bool,
+    /// Whether a string that does not fit on its line is split there, or refused.
+    pub split: bool,
     pub rights: Rights,
 }
 

@@ -37,6 +37,10 @@ impl<const IN_RUNS: bool> Layer for Careful<IN_RUNS> {
         calls::close(file, book)
     }
 
+    fn choose(file: &mut File, book: &mut Book, split: bool) -> Outcome {
+        calls::choose(file, book, split)
+    }
+
     fn reset(file: &mut File, book: &mut Book) -> Outcome {
         calls::reset(file, book)
     }

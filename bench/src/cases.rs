@@ -33,7 +33,7 @@ const STRINGS: [usize; 4] = [8, 80, 255, 4000];
 /// What has no row, and why.
 pub const LEFT_OUT: &str =
     "no row: on 2·3·8 strings of 80 and more and put of an integer, which have no room there; \
-    on 4·255·60 get of 4,000 characters, since its 66 line ends need more than 64 answers";
+    on 4·255·60 get of 4,000 characters, and put of as many with the refusal chosen, since 66 line ends need more than 64 answers";
 
 /// An answer of kind 2, newline, and how many answers can be lent.
 const NEWLINE: u32 = 2 << 28;
@@ -53,6 +53,7 @@ fn half_a_line(shape: Shape, set: bool, compress: bool) -> Scene {
             opened: true,
             reading: false,
             writing: true,
+            split: true,
             position: place,
             shape,
             rights: Rights {
@@ -115,6 +116,17 @@ fn put_string(one: &Case, length: usize) -> Case {
         .of_string(length)
 }
 
+/// The same under the refusal, with a newline answer at each line end: the string begins in the middle of a line.
+fn put_string_unsplit(one: &Case, length: usize) -> Option<Case> {
+    let line = one.scene.file.shape.characters;
+    let ends = (length + line / 2 - 1) / line;
+    let mut case = put_string(one, length);
+    case.name += ", refusal chosen";
+    case.scene.file.split = false;
+    case.row = vec![NEWLINE; ends];
+    (ends <= MOST_ANSWERS).then_some(case)
+}
+
 fn get_string(one: &Case, size: usize, terminators: &[u8]) -> Case {
     let name = match terminators.len() {
         0 => format!("get string {size}"),
@@ -132,6 +144,8 @@ fn cases_of(one: &Case) -> Vec<Case> {
     let strings: Vec<usize> = STRINGS.into_iter().filter(|&n| n <= room).collect();
     let mut cases = vec![one.clone()];
     cases.extend(strings.iter().map(|&length| put_string(one, length)));
+    let unsplit = |&length: &usize| put_string_unsplit(one, length);
+    cases.extend(strings.iter().filter_map(unsplit));
     if shape.characters >= 24 {
         cases.push(one.with("put integer", Call::PutInteger(1_234_567)));
     }

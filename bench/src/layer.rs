@@ -26,6 +26,7 @@ pub trait Layer {
     fn establish(file: &mut File, book: &mut Book) -> Self::Result;
     fn open(file: &mut File, book: &mut Book) -> Self::Result;
     fn close(file: &mut File, book: &mut Book) -> Self::Result;
+    fn choose(file: &mut File, book: &mut Book, split: bool) -> Self::Result;
     fn reset(file: &mut File, book: &mut Book) -> Self::Result;
     fn backspace(file: &mut File, book: &mut Book) -> Self::Result;
     fn put_character(file: &mut File, book: &mut Book, byte: u8, row: &[u32]) -> Self::Result;

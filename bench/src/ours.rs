@@ -58,6 +58,7 @@ declare! {
     transput_establish(*mut File; *const u8, *mut u8) -> CallResult;
     transput_open(*mut File; *const u8, *const u8) -> CallResult;
     transput_close(*mut File; *const u8, *const u8) -> CallResult;
+    transput_choose(*mut File, bool; *const u8, *const u8) -> CallResult;
     transput_reset(*mut File; *const u8, *const u8) -> CallResult;
     transput_backspace(*mut File; *const u8, *const u8) -> CallResult;
     transput_put_character(*mut File, u8; *mut u8, *mut u8, *const u32, usize) -> CallResult;
@@ -82,13 +83,14 @@ extern "C" {
 /// A call that changes no characters: its arguments, and the end kept for the next one. What the header asks of the caller holds, since
 /// references to the record and to each part are whole and overlap nothing.
 macro_rules! plain {
-    ($name:ident, $file:expr, $book:expr) => {{
+    ($name:ident, $file:expr, $book:expr $(, $own:expr)*) => {{
         let book: &mut Book = $book;
         let (text, lines, pages) = (&mut *book.text, &mut *book.lines, &mut *book.pages);
         let result = unsafe {
             $name(
                 $file,
                 book.end,
+                $($own,)*
                 text.as_ptr(),
                 text.len(),
                 lines.as_mut_ptr(),
@@ -165,6 +167,10 @@ impl Layer for Ours {
 
     fn close(file: &mut File, book: &mut Book) -> CallResult {
         plain!(transput_close, file, book)
+    }
+
+    fn choose(file: &mut File, book: &mut Book, split: bool) -> CallResult {
+        plain!(transput_choose, file, book, split)
     }
 
     fn reset(file: &mut File, book: &mut Book) -> CallResult {

@@ -28,7 +28,7 @@ fn against_runs(times: &Times) -> f64 {
 pub fn print(rows: &[Row]) {
     println!("nanoseconds for a call, the best of many turns; a ratio above 1 says that ours is faster; no buffer is cleared first");
     println!(
-        "{:<9} {:<13} {:<28} {:>9} {:>10} {:>6} {:>10} {:>6}",
+        "{:<9} {:<13} {:<32} {:>9} {:>10} {:>6} {:>10} {:>6}",
         "book", "rights", "case", "ours", "careful", "ratio", "in runs", "ratio"
     );
     rows.iter().for_each(Row::print);
@@ -41,7 +41,7 @@ impl Row<'_> {
 
     fn print(&self) {
         println!(
-            "{:<9} {:<13} {:<28} {:>9.1} {:>10.1} {:>6.2} {:>10.1} {:>6.2}",
+            "{:<9} {:<13} {:<32} {:>9.1} {:>10.1} {:>6.2} {:>10.1} {:>6.2}",
             self.case.book,
             self.case.rights,
             self.case.name,

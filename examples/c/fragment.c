@@ -1,7 +1,8 @@
-/* A small client of transput.h: it writes a fragment of a router's configuration into a book, shows its lines and reads them back.
+/* A small client of transput.h: it writes a fragment of a router's configuration into a book, twice, shows its lines and reads them back.
  *
- * Four things to see in its output:
- *  - an address that meets a line end is split by the default newline, and the put is done all the same;
+ * Five things to see in its output:
+ *  - an address that does not fit on its line is refused: it is told where it broke off, and nothing more is stored;
+ *  - with the Report's split it is split by the default newline, and the put is done all the same;
  *  - number 0 does not say that a string was read whole: its stop does;
  *  - a refusal that an event ended in says which event it was, and where;
  *  - an empty line is shown as the marker, so that no blank passes for nothing.
@@ -44,6 +45,7 @@ static const char *refusal_words(uint8_t number) {
         [TRANSPUT_OUTPUT_TOO_SHORT] = "the output is too short",
         [TRANSPUT_LOGICAL_END_UNMENDED] = "no answer mended the logical end",
         [TRANSPUT_PHYSICAL_END_UNMENDED] = "no answer mended the physical end",
+        [TRANSPUT_STRING_DOES_NOT_FIT] = "the string does not fit on its line",
     };
     bool known = number < sizeof words / sizeof words[0] && words[number] != NULL;
     return known ? words[number] : "unknown number";
@@ -107,6 +109,11 @@ static bool establish(fragment *f) {
     return done(f, "establish", transput_establish(&f->file, f->end, BOOK(f)));
 }
 
+/* The Report's split, for strings that do not fit on their line. */
+static bool choose_split(fragment *f) {
+    return done(f, "choose", transput_choose(&f->file, f->end, true, BOOK(f)));
+}
+
 static bool reset(fragment *f) {
     return done(f, "reset", transput_reset(&f->file, f->end, BOOK(f)));
 }
@@ -119,7 +126,8 @@ static bool space(fragment *f) {
     return done(f, "space", transput_space(&f->file, f->end, BOOK(f), NO_ANSWERS));
 }
 
-/* Puts a string, and says so where an event was signalled: here it can only be a line end, and its default is a newline. */
+/* Puts a string, and says so where an event was signalled: here it can only be a line end. Its default is a refusal or, with the
+ * Report's split, a newline. */
 static bool put(fragment *f, const char *string) {
     const uint8_t *bytes = (const uint8_t *)string;
     transput_result result = transput_put_string(&f->file, f->end, bytes, strlen(string), BOOK(f), NO_ANSWERS);
@@ -170,7 +178,7 @@ static bool get_integer(fragment *f) {
 
 /* ---- the program ---- */
 
-/* Line 4 has room for 24 characters: the address on it is cut after its third point. */
+/* Line 4 has room for 24 characters: the address on it breaks off after its third point. */
 static bool write_fragment(fragment *f) {
     return put(f, "interface loopback0") && newline(f)
         && put(f, "mtu") && put_integer(f, 1500) && newline(f)
@@ -249,8 +257,12 @@ static bool refused_calls(fragment *f) {
 int main(void) {
     static fragment f;
     bool good;
-    printf("written:\n");
-    good = establish(&f) && write_fragment(&f);
+    printf("written, as a record is established:\n");
+    good = establish(&f) && !write_fragment(&f);
+    printf("shown:\n");
+    show_fragment(&f);
+    printf("written with the Report's split:\n");
+    good = establish(&f) && choose_split(&f) && write_fragment(&f) && good;
     printf("shown:\n");
     show_fragment(&f);
     printf("read back:\n");

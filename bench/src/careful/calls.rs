@@ -122,6 +122,7 @@ pub fn establish(file: &mut File, book: &mut Book) -> Outcome {
     book.end = Position::START;
     file.position = Position::START;
     file.opened = true;
+    file.split = false;
     turn(file, Mood::Writing);
     Outcome::number(Ok(()))
 }
@@ -132,6 +133,7 @@ pub fn open(file: &mut File, book: &mut Book) -> Outcome {
         return Outcome::refused(Refusal::BadBook);
     }
     file.opened = true;
+    file.split = false;
     start_again(file);
     Outcome::number(Ok(()))
 }
@@ -141,6 +143,15 @@ pub fn close(file: &mut File, book: &mut Book) -> Outcome {
     let tested = test_record(file, book);
     if tested.is_ok() {
         file.opened = false;
+    }
+    Outcome::number(tested)
+}
+
+#[inline(never)]
+pub fn choose(file: &mut File, book: &mut Book, split: bool) -> Outcome {
+    let tested = test_record(file, book);
+    if tested.is_ok() {
+        file.split = split;
     }
     Outcome::number(tested)
 }
@@ -157,7 +168,7 @@ pub fn backspace(file: &mut File, book: &mut Book) -> Outcome {
 
 #[inline(never)]
 pub fn put_character(file: &mut File, book: &mut Book, byte: u8, row: &[u32]) -> Outcome {
-    put(file, book, row, |work| work.put_character(byte))
+    put(file, book, row, |work| work.put_character(byte, false))
 }
 
 #[inline(never)]

@@ -56,22 +56,23 @@ impl Work<'_> {
         self.passed(1);
     }
 
-    /// Most often the line is good and the character can be put.
+    /// Most often the line is good and the character can be put. A character of a string follows the record's choice at a line end.
     #[inline(always)]
-    pub fn put_character(&mut self, byte: u8) -> Result<(), Refusal> {
+    pub fn put_character(&mut self, byte: u8, string: bool) -> Result<(), Refusal> {
         if self.line_is_good(Mood::Writing) && is_printable(byte) {
             self.store(byte);
             return Ok(());
         }
-        self.put_after_events(byte)
+        self.put_after_events(byte, string)
     }
 
     /// Puts a character after the events that stand before it. Out of line, to keep what is done for every character small.
     #[inline(never)]
-    fn put_after_events(&mut self, byte: u8) -> Result<(), Refusal> {
+    fn put_after_events(&mut self, byte: u8, string: bool) -> Result<(), Refusal> {
         let mut tried = byte;
+        let splits = !string || self.file.split;
         loop {
-            self.good_line(Mood::Writing)?;
+            self.good_line_or_refuse(Mood::Writing, splits)?;
             if is_printable(tried) {
                 self.store(tried);
                 return Ok(());
@@ -85,7 +86,9 @@ impl Work<'_> {
 
     #[inline]
     pub fn put_string(&mut self, bytes: &[u8]) -> Result<(), Refusal> {
-        bytes.iter().try_for_each(|&byte| self.put_character(byte))
+        bytes
+            .iter()
+            .try_for_each(|&byte| self.put_character(byte, true))
     }
 
     /// The byte at the position, of a good line.

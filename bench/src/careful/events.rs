@@ -173,20 +173,29 @@ impl<'w> Work<'w> {
     /// Good line, with the default of good file: refusal 14 or 15.
     #[inline]
     pub fn good_line(&mut self, mood: Mood) -> Result<(), Refusal> {
+        self.good_line_or_refuse(mood, true)
+    }
+
+    /// The same, where a line end answered 0 is a newline only if what is put may be split there.
+    #[inline]
+    pub fn good_line_or_refuse(&mut self, mood: Mood, splits: bool) -> Result<(), Refusal> {
         if self.line_is_good(mood) {
             return Ok(());
         }
-        self.mend_line(mood)
+        self.mend_line(mood, splits)
     }
 
     /// Good line where the line is not good at once. Out of line, to keep what is done for every character small.
     #[inline(never)]
-    fn mend_line(&mut self, mood: Mood) -> Result<(), Refusal> {
+    fn mend_line(&mut self, mood: Mood, splits: bool) -> Result<(), Refusal> {
         while self.good_page(mood)? {
             if !self.line_ended() {
                 return Ok(());
             }
             if self.signal(Event::LineEnd, Some(mood))? == Reply::False {
+                if !splits {
+                    return Err(Refusal::StringDoesNotFit);
+                }
                 self.newline()?;
             }
         }

@@ -84,7 +84,8 @@ impl Work<'_> {
     pub fn put_integer(&mut self, value: i32) -> Result<(), Refusal> {
         let text = integer_text(value);
         let needed = self.find_room()?;
-        self.put_string(&text[12 - needed..])
+        let put = |&byte: &u8| self.put_character(byte, false);
+        text[12 - needed..].iter().try_for_each(put)
     }
 
     /// "Good line and pass blanks": the byte that stands after them, not passed.

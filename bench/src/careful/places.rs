@@ -19,6 +19,7 @@ pub enum Refusal {
     OutputTooShort = 12,
     LogicalEndUnmended = 14,
     PhysicalEndUnmended = 15,
+    StringDoesNotFit = 16,
 }
 
 impl Refusal {
@@ -32,6 +33,7 @@ impl Refusal {
                 | Refusal::Jumped
                 | Refusal::LogicalEndUnmended
                 | Refusal::PhysicalEndUnmended
+                | Refusal::StringDoesNotFit
         )
     }
 }

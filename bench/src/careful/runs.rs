@@ -50,12 +50,12 @@ impl Work<'_> {
     }
 
     #[inline]
-    fn put_in_runs(&mut self, bytes: &[u8]) -> Result<(), Refusal> {
+    fn put_in_runs(&mut self, bytes: &[u8], string: bool) -> Result<(), Refusal> {
         let mut rest = bytes;
         while let Some(&first) = rest.first() {
             let mut count = self.put_run(rest);
             if count == 0 {
-                self.put_character(first)?;
+                self.put_character(first, string)?;
                 count = 1;
             }
             rest = &rest[count..];
@@ -100,7 +100,7 @@ impl Work<'_> {
 
 #[inline(never)]
 pub fn put_string(file: &mut File, book: &mut Book, bytes: &[u8], row: &[u32]) -> Outcome {
-    put(file, book, row, |work| work.put_in_runs(bytes))
+    put(file, book, row, |work| work.put_in_runs(bytes, true))
 }
 
 #[inline(never)]
@@ -111,7 +111,7 @@ pub fn put_integer(file: &mut File, book: &mut Book, value: i32, row: &[u32]) ->
     put(file, book, row, |work| {
         let text = integer_text(value);
         let needed = work.find_room()?;
-        work.put_in_runs(&text[12 - needed..])
+        work.put_in_runs(&text[12 - needed..], false)
     })
 }
 

@@ -27,22 +27,22 @@ either true b h f g = f refl
 either false b h f g = g h
 
 module _ (n : ℕ) where
-  one : (i : ℕ) → i ≤ 15 → eqb n i ≡ true → n ≤ 15
+  one : (i : ℕ) → i ≤ 16 → eqb n i ≡ true → n ≤ 16
   one i k h = omega (arith, k, eqb-true n i h)
 
-  two : (i j : ℕ) → i ≤ 15 → j ≤ 15 → (eqb n i || eqb n j) ≡ true → n ≤ 15
+  two : (i j : ℕ) → i ≤ 16 → j ≤ 16 → (eqb n i || eqb n j) ≡ true → n ≤ 16
   two i j k l h = either (eqb n i) (eqb n j) h (one i k) (one j l)
 
-  most : (x : Told) → goesWith x n ≡ true → n ≤ 15
+  most : (x : Told) → goesWith x n ≡ true → n ≤ 16
   most none h = either (leb n 6) (eqb n 10) h (λ e. omega (arith, leb-true n 6 e)) (one 10 (omega arith))
   most (signalled logicalEnd x) h = two 14 11 (omega arith) (omega arith) h
   most (signalled physicalEnd x) h = two 15 11 (omega arith) (omega arith) h
   most (signalled pageEnd x) h = one 11 (omega arith) h
-  most (signalled lineEnd x) h = one 11 (omega arith) h
+  most (signalled lineEnd x) h = two 16 11 (omega arith) (omega arith) h
   most (signalled character x) h = two 8 11 (omega arith) (omega arith) h
   most (signalled value x) h = two 9 11 (omega arith) (omega arith) h
 
-told-most : {e : Ending} {events : ℕ} → Tells e events → e .number ≤ 15
+told-most : {e : Ending} {events : ℕ} → Tells e events → e .number ≤ 16
 told-most {e} (together h) = most (e .number) (e .told) h
 told-most {e} (early h z) = let n : e .number ≡ 9 = ap (λ (x : Ending). x .number) h in omega (arith, n)
 
@@ -73,8 +73,8 @@ module _ (k : Call) (f : File) (b : Book) where
   pub number-and-event : Tells (call k f b .result .ending) (call k f b .result .events)
   number-and-event = bounds .tells
 
-  -- NO CALL MEETS THE BOUND OF THE KNOT: each ends with a number of documents 01 and 02, 15 at most
-  pub no-call-meets-the-bound : call k f b .result .ending .number ≤ 15
+  -- NO CALL MEETS THE BOUND OF THE KNOT: each ends with a number of documents 01 and 02, 16 at most
+  pub no-call-meets-the-bound : call k f b .result .ending .number ≤ 16
   no-call-meets-the-bound = told-most number-and-event
 
   -- so never with the ending that the bound has

@@ -13,7 +13,7 @@ use Rattle.rules.specs.Step.{Ending, Step, _>>=_, pure, refusal, stopped, size}
 use Rattle.rules.specs.Steps.{goodLine, newline, newpage, setTo, putCharacter, roomFor, passBlanks, moreDigits, setCharacterNumber}
 use Rattle.rules.specs.Whole.{wholeText, lowest}
 use Rattle.rules.specs.Told.{known}
-use Rattle.rules.specs.Calls.{Value, nothing, aCharacter, anInteger, aView, aString, begin, needRow, turnable, turn, putting, getting, established, establishing, opening, closing, resetting, backspacing, shown, shownPart, orMarker, viewing, viewNumber, withSign, putCharacters, puttingString, putText, puttingInteger, gettingCharacter, getCharacters, gettingString, integerGiven, takeInteger, gettingInteger, inMoodOn, spacing, newlining, newpaging, settingCharacterNumber, setting, Plain, establishes, opens, closes, resets, backspaces, views, viewNumbers, Asking, putsCharacter, putsString, putsInteger, getsCharacter, getsInteger, spaces, newlines, newpages, getsString, sets, setsCharacterNumber, Call, plain, asking, plainWork, askingWork, work}
+use Rattle.rules.specs.Calls.{choosing, chooses, Value, nothing, aCharacter, anInteger, aView, aString, begin, needRow, turnable, turn, putting, getting, established, establishing, opening, closing, resetting, backspacing, shown, shownPart, orMarker, viewing, viewNumber, withSign, putCharacters, puttingCharacters, putText, puttingInteger, gettingCharacter, getCharacters, gettingString, integerGiven, takeInteger, gettingInteger, inMoodOn, spacing, newlining, newpaging, settingCharacterNumber, setting, Plain, establishes, opens, closes, resets, backspaces, views, viewNumbers, Asking, putsCharacter, putsString, putsInteger, getsCharacter, getsInteger, spaces, newlines, newpages, getsString, sets, setsCharacterNumber, Call, plain, asking, plainWork, askingWork, work}
 use Rattle.bounded.specs.Row.{rowOf}
 use Rattle.laws.proofs.Order.{is-yes}
 use Rattle.laws.proofs.Progress.{gain-heard}
@@ -64,18 +64,18 @@ module _ (row : List ℕ) where
 
   -- ---- put
 
-  at-characters : (bs : List ℕ) {s u : State} (t : List ℕ) → Start row s → Come row s u → At (Over row) (λ _ v. Come row s v) (putCharacters row bs) (putCharacters row bs) u t
+  at-characters : (w : Bool) (bs : List ℕ) {s u : State} (t : List ℕ) → Start row s → Come row s u → At (Over row) (λ _ v. Come row s v) (putCharacters row w bs) (putCharacters row w bs) u t
   unfolding putCharacters
-  at-characters [] t st c = at-pure _ tt c
-  at-characters (b ∷ bs) t st c = at-bind (at-execute st c (putCharacter b) t) λ _ v t d. at-characters bs t st (come-more c (d .valid) (d .took) (d .claim))
+  at-characters w [] t st c = at-pure _ tt c
+  at-characters w (b ∷ bs) t st c = at-bind (at-execute st c (putCharacter w b) t) λ _ v t d. at-characters w bs t st (come-more c (d .valid) (d .took) (d .claim))
 
   at-nothing : {s u : State} (t : List ℕ) → Start row s → Come row s u → Sound row (pure nothing) u t
   at-nothing t st c = at-pure _ nothing (record { tells = together refl; counted = come-counted st c })
 
-  at-puttingString : (bs : List ℕ) (s : State) (t : List ℕ) → Quiet s → Sound row (puttingString row bs) s t
-  unfolding puttingString
-  at-puttingString bs s t q = at-asking row s t q λ st. at-bind (at-putting s t st) λ _ u t st′.
-      at-bind (at-characters bs t st′ (come-start st′)) λ _ v t c. at-nothing t st′ c
+  at-puttingCharacters : (w : Bool) (bs : List ℕ) (s : State) (t : List ℕ) → Quiet s → Sound row (puttingCharacters row w bs) s t
+  unfolding puttingCharacters
+  at-puttingCharacters w bs s t q = at-asking row s t q λ st. at-bind (at-putting s t st) λ _ u t st′.
+      at-bind (at-characters w bs t st′ (come-start st′)) λ _ v t c. at-nothing t st′ c
 
   at-text : (bs : List ℕ) {s : State} (t : List ℕ) → Start row s → At (Over row) (λ _ v. Come row s v) (putText row bs) (putText row bs) s t
   unfolding putText
@@ -83,8 +83,8 @@ module _ (row : List ℕ) where
       let c : Come row s u = come-more (come-start st) (d .valid) (d .took) (d .claim .0) in
       at-bind {Q = λ _ v. Come row s v} (at-test (λ s. eqb (here s .character) 1)
       (λ _. at-pure _ tt c)
-      (λ _. at-weak (λ e v x. x) (λ _ v x. come-more c (x .valid) (x .took) (x .claim)) (at-execute st c (putCharacter 32) t))) λ _ v t c′.
-      at-characters bs t st c′
+      (λ _. at-weak (λ e v x. x) (λ _ v x. come-more c (x .valid) (x .took) (x .claim)) (at-execute st c (putCharacter false 32) t))) λ _ v t c′.
+      at-characters false bs t st c′
 
   at-puttingInteger : (v : ℤ) (s : State) (t : List ℕ) → Quiet s → Sound row (puttingInteger row v) s t
   unfolding puttingInteger
@@ -174,8 +174,8 @@ module _ (row : List ℕ) where
 
   at-askingWork : (k : Asking) (s : State) (t : List ℕ) → Quiet s → Sound row (askingWork row k) s t
   unfolding askingWork
-  at-askingWork (putsCharacter b) = at-puttingString (b ∷ [])
-  at-askingWork (putsString bs) = at-puttingString bs
+  at-askingWork (putsCharacter b) = at-puttingCharacters false (b ∷ [])
+  at-askingWork (putsString bs) = at-puttingCharacters true bs
   at-askingWork (putsInteger v) = at-puttingInteger v
   at-askingWork getsCharacter = at-gettingCharacter
   at-askingWork (getsString terminators buffer) = at-gettingString terminators (length buffer)
@@ -212,6 +212,10 @@ at-closing : (s : State) (t : List ℕ) → Quiet s → Sound [] closing s t
 unfolding closing
 at-closing s t q = at-begin s t q λ _ _. at-bind {Q = λ _ u. Quiet u} (at-change _ _ (record { events = q .events; taken = q .taken })) λ _ u t q′. at-pure _ nothing (quiet-nothing u q′)
 
+at-choosing : (split : Bool) (s : State) (t : List ℕ) → Quiet s → Sound [] (choosing split) s t
+unfolding choosing
+at-choosing split s t q = at-begin s t q λ _ _. at-bind {Q = λ _ u. Quiet u} (at-change _ _ (record { events = q .events; taken = q .taken })) λ _ u t q′. at-pure _ nothing (quiet-nothing u q′)
+
 at-resetting : (s : State) (t : List ℕ) → Quiet s → Sound [] resetting s t
 unfolding resetting
 at-resetting s t q = at-begin s t q λ n f. at-bind (at-reset s t (fits-facts n s f .valid) (quiet-over [] s (refusal 4) q refl)) λ _ u t x. at-pure _ nothing (quiet-nothing u (still-quiet q x))
@@ -240,6 +244,7 @@ unfolding plainWork
 at-plainWork establishes = at-establishing
 at-plainWork opens = at-opening
 at-plainWork closes = at-closing
+at-plainWork (chooses split) = at-choosing split
 at-plainWork resets = at-resetting
 at-plainWork backspaces = at-backspacing
 at-plainWork (views p l marker) = at-viewing p l marker

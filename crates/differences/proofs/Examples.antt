@@ -27,6 +27,7 @@ reading opened p l c = record {
   position = place 1 1 1;
   shape = record { pages = p; lines = l; characters = c };
   rights = record { get = true; put = false; «set» = true; reset = true; compress = true };
+  split = false;
 }
 
 -- the record of the shape 1·2·4, and a book of that shape with full lengths

@@ -158,16 +158,16 @@ module _ (row text : List ℕ) (s : State) (t : List ℕ) (rd : Ready row (roomF
     room-done = done-of row (roomFor (length text)) t rd f
 
     -- the state is ready to put a character
-    put-ready : Ready row (putCharacter 32) b
-    put-ready = ready-as row (roomFor (length text)) b (from-gain b rd (room-done .valid) (room-done .took) (room-done .claim .0) .ready) (putCharacter 32) (omega arith)
+    put-ready : Ready row (putCharacter false 32) b
+    put-ready = ready-as row (roomFor (length text)) b (from-gain b rd (room-done .valid) (room-done .took) (room-done .claim .0) .ready) (putCharacter false 32) (omega arith)
 
     -- all of the text, at a state with room for it
-    whole-run : (b : State) (t₁ : List ℕ) → Ready row (putCharacter 32) b → LineGood false b → here b .character + length text ≤ lineHere b + 1 → (cs : List ℕ) → text ≡ cs → All printable cs
-        → putCharacters row text b t₁ ≡ done tt (storedBy (length text) b) (sets t₁ (characterIndex (shapeOf b) (here b)) text)
+    whole-run : (b : State) (t₁ : List ℕ) → Ready row (putCharacter false 32) b → LineGood false b → here b .character + length text ≤ lineHere b + 1 → (cs : List ℕ) → text ≡ cs → All printable cs
+        → putCharacters row false text b t₁ ≡ done tt (storedBy (length text) b) (sets t₁ (characterIndex (shapeOf b) (here b)) text)
     whole-run b t₁ r g k [] e a = absurd (omega (arith, some, ap length e))
     whole-run b t₁ r g k (c ∷ cs) e (also q qs) =
         let z : suc (length cs) ≡ length text = sym (ap length e) in
-        ap (λ (x : List ℕ). putCharacters row x b t₁) e ∙ put-run row c cs b t₁ (any-character c r) g q qs (omega (arith, k, z))
+        ap (λ (x : List ℕ). putCharacters row false x b t₁) e ∙ put-run row false c cs b t₁ (any-character c r) g q qs (omega (arith, k, z))
         ∙ ap (λ (x : List ℕ). done tt (storedBy (length x) b) (sets t₁ (characterIndex (shapeOf b) (here b)) x)) (sym e)
 
     -- what the code leaves
@@ -182,12 +182,12 @@ module _ (row text : List ℕ) (s : State) (t : List ℕ) (rd : Ready row (roomF
         ∙ whole-run b t₁ put-ready (room-done .claim .1 .0) (fits-fact (length text) b (room-done .claim .1 .1)) text refl (all-of printable text p))
 
     module _ (c : here b .character ≡ 1 → ⊥) {u : State} {t₂ : List ℕ} (hu : u ≡ storedBy 1 b) (ht : t₂ ≡ set t₁ (characterIndex (shapeOf b) (here b)) 32) where
-      after-blank : putText row text s t ≡ putCharacters row text u t₂
+      after-blank : putText row text s t ≡ putCharacters row false text u t₂
       unfolding putText
-      after-blank = bind-done _ _ s t f ∙ bind-done _ _ b t₁ (test-false _ _ _ b t₁ (ne-eqb (here b .character) 1 c) ∙ one-stored row 32 b t₁ put-ready (room-done .claim .1 .0) blank-printable ∙ ap (λ (v : State). done tt v (set t₁ (characterIndex (shapeOf b) (here b)) 32)) (sym hu) ∙ ap (λ (v : List ℕ). done tt u v) (sym ht))
+      after-blank = bind-done _ _ s t f ∙ bind-done _ _ b t₁ (test-false _ _ _ b t₁ (ne-eqb (here b .character) 1 c) ∙ one-stored row false 32 b t₁ put-ready (room-done .claim .1 .0) blank-printable ∙ ap (λ (v : State). done tt v (set t₁ (characterIndex (shapeOf b) (here b)) 32)) (sym hu) ∙ ap (λ (v : List ℕ). done tt u v) (sym ht))
 
-      pub blank-ready : Ready row (putCharacter 32) u
-      blank-ready = subst (Ready row (putCharacter 32)) (sym hu) (one-ready row 32 b t₁ put-ready (room-done .claim .1 .0) blank-printable)
+      pub blank-ready : Ready row (putCharacter false 32) u
+      blank-ready = subst (Ready row (putCharacter false 32)) (sym hu) (one-ready row false 32 b t₁ put-ready (room-done .claim .1 .0) blank-printable)
 
       pub text-after : {z : Run} {t′ l′ p′ : List ℕ} → state z l′ p′ ≡ storedBy (length text) u → t′ ≡ sets t₂ (characterIndex (shapeOf u) (here u)) text → {x : Outcome} → x ≡ doneBy z → outcome x t′ l′ p′ ≡ putText row text s t
       text-after hz ht′ hx =

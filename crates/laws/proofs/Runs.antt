@@ -89,21 +89,21 @@ came-twice s p l c d h one = split (before (endOf s) (place p l c))
 -- ---- one character, and then a run
 
 -- a state ready to put a character is ready to put any
-pub any-character : {row : List ℕ} {b : ℕ} {s : State} (c : ℕ) → Ready row (putCharacter b) s → Ready row (putCharacter c) s
-any-character {row} {b} {s} c rd = ready-as row (putCharacter b) s rd (putCharacter c) (omega arith)
+pub any-character : {row : List ℕ} {w : Bool} {b : ℕ} {s : State} (c : ℕ) → Ready row (putCharacter w b) s → Ready row (putCharacter w c) s
+any-character {row} {w} {b} {s} c rd = ready-as row (putCharacter w b) s rd (putCharacter w c) (omega arith)
 
-module _ (row : List ℕ) (b : ℕ) (s : State) (t : List ℕ) (rd : Ready row (putCharacter b) s) (g : LineGood false s) (e : printable b ≡ true) where
-  pub put-one : execute row (putCharacter b) s t ≡ store b s t
+module _ (row : List ℕ) (w : Bool) (b : ℕ) (s : State) (t : List ℕ) (rd : Ready row (putCharacter w b) s) (g : LineGood false s) (e : printable b ≡ true) where
+  pub put-one : execute row (putCharacter w b) s t ≡ store b s t
   unfolding body putCharacterBody
-  put-one = unfold-execute row (putCharacter b) s t rd ∙ bind-done _ _ s t (goodLine-at-once row false false s t (put-line row b s t rd) g) ∙ branch-true _ _ s t e
+  put-one = unfold-execute row (putCharacter w b) s t rd ∙ bind-done _ _ s t (goodLine-at-once row false w s t (put-line row w b s t rd) g) ∙ branch-true _ _ s t e
 
-  pub one-stored : execute row (putCharacter b) s t ≡ done tt (storedBy 1 s) (set t (characterIndex (shapeOf s) (here s)) b)
+  pub one-stored : execute row (putCharacter w b) s t ≡ done tt (storedBy 1 s) (set t (characterIndex (shapeOf s) (here s)) b)
   one-stored = put-one ∙ stored-is s t b
 
-  pub one-ready : Ready row (putCharacter b) (storedBy 1 s)
+  pub one-ready : Ready row (putCharacter w b) (storedBy 1 s)
   one-ready =
-      let d = done-of row (putCharacter b) t rd one-stored in
-      ready-on row (putCharacter b) s rd (storedBy 1 s) (d .valid) (d .took) (gain-less (omega arith) (d .claim))
+      let d = done-of row (putCharacter w b) t rd one-stored in
+      ready-on row (putCharacter w b) s rd (storedBy 1 s) (d .valid) (d .took) (gain-less (omega arith) (d .claim))
 
 -- no length gets smaller where a character is stored
 pub stored-grown : (s : State) (x : Position) → Valid s → Grown (s .lengths) (cameTo s x .lengths)
@@ -132,37 +132,37 @@ twice s m n =
     ∙ came-twice s (here s .page) (here s .line) (here s .character + 1) (here s .character + suc (suc m)) (omega arith) (omega arith)
 
 -- a run of at least one character
-pub put-run : (row : List ℕ) (b : ℕ) (bs : List ℕ) (s : State) (t : List ℕ) → Ready row (putCharacter b) s → LineGood false s → printable b ≡ true → All printable bs
+pub put-run : (row : List ℕ) (w : Bool) (b : ℕ) (bs : List ℕ) (s : State) (t : List ℕ) → Ready row (putCharacter w b) s → LineGood false s → printable b ≡ true → All printable bs
     → here s .character + length bs ≤ lineHere s
-    → putCharacters row (b ∷ bs) s t ≡ done tt (storedBy (suc (length bs)) s) (sets t (characterIndex (shapeOf s) (here s)) (b ∷ bs))
+    → putCharacters row w (b ∷ bs) s t ≡ done tt (storedBy (suc (length bs)) s) (sets t (characterIndex (shapeOf s) (here s)) (b ∷ bs))
 unfolding putCharacters pure
-put-run row b [] s t rd g e none k = bind-done _ _ s t (one-stored row b s t rd g e)
-put-run row b (c ∷ cs) s t rd g e (also f fs) k =
+put-run row w b [] s t rd g e none k = bind-done _ _ s t (one-stored row w b s t rd g e)
+put-run row w b (c ∷ cs) s t rd g e (also f fs) k =
     let s₁ : State = storedBy 1 s in
     let t₁ : List ℕ = set t (characterIndex (shapeOf s) (here s)) b in
     let n : Near (here s) = near-at (rd .valid) in
-    bind-done _ _ s t (one-stored row b s t rd g e)
-    ∙ put-run row c cs s₁ t₁ (any-character c (one-ready row b s t rd g e)) (good-on s 1 (rd .valid) g (omega arith)) f fs (omega (arith, k, line-stays s 1 (rd .valid)))
+    bind-done _ _ s t (one-stored row w b s t rd g e)
+    ∙ put-run row w c cs s₁ t₁ (any-character c (one-ready row w b s t rd g e)) (good-on s 1 (rd .valid) g (omega arith)) f fs (omega (arith, k, line-stays s 1 (rd .valid)))
     ∙ ap (λ (u : State). done tt u (sets t₁ (characterIndex (shapeOf s) (nextCharacter (here s))) (c ∷ cs))) (twice s (length cs) n)
     ∙ ap (λ (i : ℕ). done tt (storedBy (suc (suc (length cs))) s) (sets t₁ i (c ∷ cs))) (index-next (shapeOf s) (here s) (n .character-low))
 
 -- and the state after it is ready for more
-pub run-ready : (row : List ℕ) (b : ℕ) (bs : List ℕ) (s : State) (t : List ℕ) → Ready row (putCharacter b) s → LineGood false s → printable b ≡ true → All printable bs
-    → here s .character + length bs ≤ lineHere s → Ready row (putCharacter b) (storedBy (suc (length bs)) s)
-run-ready row b [] s t rd g e none k = one-ready row b s t rd g e
-run-ready row b (c ∷ cs) s t rd g e (also f fs) k =
+pub run-ready : (row : List ℕ) (w : Bool) (b : ℕ) (bs : List ℕ) (s : State) (t : List ℕ) → Ready row (putCharacter w b) s → LineGood false s → printable b ≡ true → All printable bs
+    → here s .character + length bs ≤ lineHere s → Ready row (putCharacter w b) (storedBy (suc (length bs)) s)
+run-ready row w b [] s t rd g e none k = one-ready row w b s t rd g e
+run-ready row w b (c ∷ cs) s t rd g e (also f fs) k =
     let s₁ : State = storedBy 1 s in
     let n : Near (here s) = near-at (rd .valid) in
-    let x : Ready row (putCharacter b) (storedBy (suc (length cs)) s₁)
-    = any-character b (run-ready row c cs s₁ (set t (characterIndex (shapeOf s) (here s)) b) (any-character c (one-ready row b s t rd g e)) (good-on s 1 (rd .valid) g (omega arith)) f fs (omega (arith, k, line-stays s 1 (rd .valid)))) in
-    subst (Ready row (putCharacter b)) (twice s (length cs) n) x
+    let x : Ready row (putCharacter w b) (storedBy (suc (length cs)) s₁)
+    = any-character b (run-ready row w c cs s₁ (set t (characterIndex (shapeOf s) (here s)) b) (any-character c (one-ready row w b s t rd g e)) (good-on s 1 (rd .valid) g (omega arith)) f fs (omega (arith, k, line-stays s 1 (rd .valid)))) in
+    subst (Ready row (putCharacter w b)) (twice s (length cs) n) x
 
 -- ---- one text after another
 
-pub put-append : (row : List ℕ) (xs ys : List ℕ) (s : State) (t : List ℕ) → putCharacters row (xs ++ ys) s t ≡ (putCharacters row xs >>= λ _. putCharacters row ys) s t
+pub put-append : (row : List ℕ) (w : Bool) (xs ys : List ℕ) (s : State) (t : List ℕ) → putCharacters row w (xs ++ ys) s t ≡ (putCharacters row w xs >>= λ _. putCharacters row w ys) s t
 unfolding putCharacters _>>=_ pure
-put-append row [] ys s t = refl
-put-append row (x ∷ xs) ys s t = after-first (putCharacters row (xs ++ ys)) (putCharacters row xs) (putCharacters row ys) (λ u v. put-append row xs ys u v) (execute row (putCharacter x) s t)
+put-append row w [] ys s t = refl
+put-append row w (x ∷ xs) ys s t = after-first (putCharacters row w (xs ++ ys)) (putCharacters row w xs) (putCharacters row w ys) (λ u v. put-append row w xs ys u v) (execute row (putCharacter w x) s t)
   where
     after-first : (f g h : Step (Unit {0})) → ((u : State) (v : List ℕ) → f u v ≡ andThen (λ _. h) (g u v)) → (o : Out (Unit {0})) → andThen (λ _. f) o ≡ andThen (λ _. h) (andThen (λ _. g) o)
     after-first f g h e (done a u v) = e u v

@@ -12,7 +12,7 @@ use Rattle.rules.specs.declared.Position.{Position}
 use Rattle.rules.specs.declared.Run.{Run}
 use Rattle.rules.specs.Book.{choose, before, within, nextCharacter, nextLine, nextPage, inBounds, pageLength, State, onRun, here, endOf, shapeOf, rightsOf, lineHere, movedTo, Event, logicalEnd, physicalEnd, pageEnd, lineEnd, Mending, Answer, isFalse, isTrue, suggested}
 use Rattle.rules.specs.Step.{signalled, Ending, Step, _>>=_, refuseAt, refusal, refusalAt, stopped, branch, test, fileEnded, pageEnded, lineEnded, onEndPage, onEndLine, store}
-use Rattle.rules.specs.Steps.{Action, Gives, goodFile, goodPage, goodLine, atPageEnd, atLineEnd, newline, newpage, setTo, perform, answered, putCharacter, roomFor, passBlanks, moreDigits, setCharacterNumber, printable, digit, fitsHere, isStop, fileEnd, fileEndNumber, signals, signalWhile, goodFileBody, goodPageBody, atPageEndBody, goodLineBody, atLineEndBody, newlineBody, newpageBody, setToBody, performBody, answeredBody, characterEvent, putCharacterBody, roomForBody, passBlanksBody, moreDigitsBody, spaceStep, setCharacterNumberBody, body, rank, spentBy, stage, measure, bounded, execute}
+use Rattle.rules.specs.Steps.{stringEnd, Action, Gives, goodFile, goodPage, goodLine, atPageEnd, atLineEnd, newline, newpage, setTo, perform, answered, putCharacter, roomFor, passBlanks, moreDigits, setCharacterNumber, printable, digit, fitsHere, isStop, fileEnd, fileEndNumber, signals, signalWhile, goodFileBody, goodPageBody, atPageEndBody, goodLineBody, atLineEndBody, newlineBody, newpageBody, setToBody, performBody, answeredBody, characterEvent, putCharacterBody, roomForBody, passBlanksBody, moreDigitsBody, spaceStep, setCharacterNumberBody, body, rank, spentBy, stage, measure, bounded, execute}
 use Rattle.rules.specs.Told.{goesWith, known}
 use Rattle.laws.proofs.Order.{is-yes}
 use Rattle.laws.proofs.Validity.{Valid, Near, near-at, near-end, near-in, rules-moved, before-false, moveTo, toEnd, end-valid, end-further, writing-within, same-line, next-line-valid, next-page-valid, pass-valid, in-bounds}
@@ -156,21 +156,28 @@ module _ (row : List ℕ) (f g : (action : Action) → Step (Gives action)) wher
   goodLine-step : (r w : Bool) → Steps (goodLine r w) (goodLineBody row f r w) (goodLineBody row g r w)
   unfolding goodLineBody
   goodLine-step r w s t rd ag =
-      at-bind (at-lower ag (from-start rd) (goodPage r w) t (omega arith)) λ _ b t d.
+      at-bind (at-lower ag (from-start rd) (goodPage r (r && w)) t (omega arith)) λ _ b t d.
       let m = from-gain b rd (d .valid) (d .took) (d .claim .0) in
       at-while ag m lineEnded t
       (λ e. record { valid = d .valid; took = d .took; claim = (m .gain, (d .claim .1, e)) })
       (at-weak (λ e u y. y) (λ _ u x. record { valid = x .valid; took = x .took; gain = x .claim }) (at-lower ag m (atLineEnd r w) t (omega arith)))
       (λ u t o. at-weak (λ e u y. y) (λ _ v x. record { valid = x .valid; took = x .took; claim = (gain-less (omega arith) (gain-trans (m .gain) (gain-trans (o .gain) (x .claim .0))), x .claim .1) }) (at-afresh ag m (goodLine r w) u t o))
 
+  -- the default newline at a line end
+  line-default : {r w : Bool} {s : State} (t : List ℕ) → Ready row (atLineEnd r w) s → Agree (measure row (atLineEnd r w) s) → At (Ended row (atLineEnd r w) s) (λ _ u. On row s u) (f (newline r)) (g (newline r)) (heard row s) t
+  line-default {r} {w} {s} t rd ag =
+      at-weak (λ e u y. y) (λ _ u x. record { valid = x .valid; took = x .took; gain = default-gain row (atLineEnd r w) s (u .run) rd (x .claim) }) (at-default ag (from-start rd) (newline r) t (omega arith))
+
   atLineEnd-step : (r w : Bool) → Steps (atLineEnd r w) (atLineEndBody row f r w) (atLineEndBody row g r w)
-  unfolding atLineEndBody
+  unfolding atLineEndBody stringEnd
   atLineEnd-step r w s t rd ag =
       let m = from-start rd in
       at-weak (λ e u y. y) (λ _ u o. record { valid = o .valid; took = o .took; claim = o .gain })
       (at-signals ag m lineEnd r t (omega arith)
-      (at-branch w (λ _. at-halt (stopped 2) (heard-end ag m (stopped 2) refl (omega arith)))
-      (λ _. at-weak (λ e u y. y) (λ _ u x. record { valid = x .valid; took = x .took; gain = default-gain row (atLineEnd r w) s (u .run) rd (x .claim) }) (at-default ag m (newline r) t (omega arith)))))
+      (at-branch w
+      (λ _. at-branch r (λ _. at-halt (stopped 2) (heard-end ag m (stopped 2) refl (omega arith)))
+      (λ _. at-test (λ s. s .run .file .split) (λ _. line-default t rd ag) (λ _. at-refused ag m lineEnd 16 t refl (omega arith))))
+      (λ _. line-default t rd ag)))
 
   reads : (r : Bool) (b : State) → r ≡ true → FileGood r b → FileGood true b
   reads r b k h = subst (λ (x : Bool). FileGood x b) k h
@@ -248,15 +255,15 @@ module _ (row : List ℕ) (f g : (action : Action) → Step (Gives action)) wher
   unfolding answeredBody
   answered-step r x s t rd ag = at-bind (at-lower ag (from-start rd) (perform x) t (omega arith)) λ _ u t d. at-change _ _ (record { valid = d .valid; took = d .took; claim = d .claim })
 
-  putCharacter-step : (c : ℕ) → Steps (putCharacter c) (putCharacterBody row f c) (putCharacterBody row g c)
+  putCharacter-step : (w : Bool) (c : ℕ) → Steps (putCharacter w c) (putCharacterBody row f w c) (putCharacterBody row g w c)
   unfolding putCharacterBody
-  putCharacter-step c s t rd ag =
-      at-bind (at-lower ag (from-start rd) (goodLine false false) t (omega arith)) λ _ b t d.
+  putCharacter-step w c s t rd ag =
+      at-bind (at-lower ag (from-start rd) (goodLine false w) t (omega arith)) λ _ b t d.
       let m = from-gain b rd (d .valid) (d .took) (d .claim .0) in
       at-branch (printable c)
       (λ _. at-weak (λ e u y. y) (λ _ u x. record { valid = x .valid; took = omega (arith, x .taken, d .took); claim = gain-trans (m .gain) (x .gain) }) (at-store c b t (d .valid) (d .claim .1 .1)))
       (λ _. at-bind (at-characterEvent ag m false 32 t (omega arith)) λ c′ u t o.
-      at-weak (λ e u y. y) (λ _ v x. record { valid = x .valid; took = x .took; claim = gain-less (omega arith) (gain-trans (m .gain) (gain-trans (o .gain) (x .claim))) }) (at-afresh ag m (putCharacter c′) u t o))
+      at-weak (λ e u y. y) (λ _ v x. record { valid = x .valid; took = x .took; claim = gain-less (omega arith) (gain-trans (m .gain) (gain-trans (o .gain) (x .claim))) }) (at-afresh ag m (putCharacter w c′) u t o))
 
   fits-true : (b : Bool) → not b ≡ false → b ≡ true
   fits-true b h = not-false b h
@@ -344,7 +351,7 @@ module _ (row : List ℕ) (f g : (action : Action) → Step (Gives action)) wher
   body-step (setTo x) = setTo-step x
   body-step (perform m) = perform-step m
   body-step (answered r m) = answered-step r m
-  body-step (putCharacter b) = putCharacter-step b
+  body-step (putCharacter w b) = putCharacter-step w b
   body-step (roomFor w) = roomFor-step w
   body-step passBlanks = passBlanks-step
   body-step (moreDigits v) = moreDigits-step v

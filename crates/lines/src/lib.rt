@@ -5,7 +5,7 @@ use rules::Run;
 ghost use mathlib.Core.Path.{_≡_};
 ghost use lib.Dec.{T};
 ghost use mathlib.Core.Bool.{false};
-ghost use Rattle.rules.specs.Book.{state, mendingOf, rowFits};
+ghost use Rattle.rules.specs.Book.{state, kindOf, mendingOf, rowFits};
 ghost use Rattle.rules.specs.Step.{outcomeGiving, outcome};
 ghost use Rattle.rules.specs.Steps.{Action, characterEvent, spaceStep, execute};
 ghost use Rattle.rules.specs.Ready.{Ready};
@@ -82,8 +82,34 @@ pub fn newline(
     running::finish(closed)
 }
 
-// Follows an event's answer that is not false: most often, reading, it is a newline to another line than the logical end's, and signals
-// nothing.
+// Follows a newline that was answered and not in read mood: most often it is written at the logical end, and signals nothing.
+pub fn follow_writing(
+    run: Run,
+    word: u32,
+    reading: bool,
+    text: &mut [u8],
+    lines: &mut [u8],
+    pages: &mut [u8],
+    row: &[u32],
+    event: Event,
+) -> Outcome
+    requires { ⌜ Ready (now row) (Action.answered reading (mendingOf word)) (state run (now lines) (now pages)) ⌝ }
+    requires { ⌜ (kindOf word ≡ 2) × (run .file .reading ≡ false) ⌝ }
+    ensures { λ r. ⌜ outcome r (now (text .exit)) (now (lines .exit)) (now (pages .exit)) ≡ followed (now (row .entry)) event reading word (state run (now (lines .entry)) (now (pages .entry))) (now (text .entry)) ⌝ }
+{
+    if !run.file.writing {
+        return events::follow(run, word, reading, text, lines, pages, row, event);
+    }
+    let turned = newline(run, false, text, lines, pages, row);
+    if !running::goes_on(turned) {
+        return turned;
+    }
+    let again = running::in_mood(turned.run, reading);
+    running::finish(again)
+}
+
+// Follows an event's answer that is not false: most often it is a newline, reading to another line than the logical end's, or writing, and
+// signals nothing.
 pub fn follow(
     run: Run,
     word: u32,
@@ -101,7 +127,7 @@ pub fn follow(
         return events::follow(run, word, reading, text, lines, pages, row, event);
     }
     if !run.file.reading {
-        return events::follow(run, word, reading, text, lines, pages, row, event);
+        return follow_writing(run, word, reading, text, lines, pages, row, event);
     }
     if !places::page_good(run, true, pages) {
         return events::follow(run, word, reading, text, lines, pages, row, event);
@@ -130,10 +156,16 @@ pub fn line_end(
     let word = running::next_word(run, row);
     let next = running::signalled(run, row);
     if running::kind_of(word) == 0 {
-        if string {
+        if !string {
+            return newline(next, reading, text, lines, pages, row);
+        }
+        if reading {
             return running::stopped(next, 2);
         }
-        return newline(next, reading, text, lines, pages, row);
+        if next.file.split {
+            return newline(next, reading, text, lines, pages, row);
+        }
+        return running::refused_at(next, Event::LineEnd, 16);
     }
     follow(next, word, reading, text, lines, pages, row, Event::LineEnd)
 }
@@ -170,9 +202,10 @@ pub fn reach_line(
     requires { ⌜ Ready (now row) (Action.goodLine reading string) (state run (now lines) (now pages)) ⌝ }
     ensures { λ r. ⌜ outcome r (now (text .exit)) (now (lines .exit)) (now (pages .exit)) ≡ execute (now (row .entry)) (Action.goodLine reading string) (state run (now (lines .entry)) (now (pages .entry))) (now (text .entry)) ⌝ }
 {
+    let stops = running::stops(reading, string);
     let mut here = run;
     loop {
-        let good = good_page(here, reading, string, text, lines, pages, row);
+        let good = good_page(here, reading, stops, text, lines, pages, row);
         if !running::goes_on(good) {
             return good;
         }
@@ -206,23 +239,24 @@ pub fn good_line(
     reach_line(run, reading, string, text, lines, pages, row)
 }
 
-// Put a character with its events: each suggestion is tried from the start.
+// Put a character with its events: each suggestion is tried from the start. A character of a string follows the choice at its line end.
 pub fn try_character(
     run: Run,
+    string: bool,
     b: u8,
     text: &mut [u8],
     lines: &mut [u8],
     pages: &mut [u8],
     row: &[u32],
 ) -> Outcome
-    requires { ⌜ Ready (now row) (Action.putCharacter b) (state run (now lines) (now pages)) ⌝ }
+    requires { ⌜ Ready (now row) (Action.putCharacter string b) (state run (now lines) (now pages)) ⌝ }
     requires { ⌜ T (rowFits (now row)) ⌝ }
-    ensures { λ r. ⌜ outcome r (now (text .exit)) (now (lines .exit)) (now (pages .exit)) ≡ execute (now (row .entry)) (Action.putCharacter b) (state run (now (lines .entry)) (now (pages .entry))) (now (text .entry)) ⌝ }
+    ensures { λ r. ⌜ outcome r (now (text .exit)) (now (lines .exit)) (now (pages .exit)) ≡ execute (now (row .entry)) (Action.putCharacter string b) (state run (now (lines .entry)) (now (pages .entry))) (now (text .entry)) ⌝ }
 {
     let mut here = run;
     let mut c = b;
     loop {
-        let good = reach_line(here, false, false, text, lines, pages, row);
+        let good = reach_line(here, false, string, text, lines, pages, row);
         if !running::goes_on(good) {
             return good;
         }
@@ -250,9 +284,9 @@ pub fn put_character(
     pages: &mut [u8],
     row: &[u32],
 ) -> Outcome
-    requires { ⌜ Ready (now row) (Action.putCharacter b) (state run (now lines) (now pages)) ⌝ }
+    requires { ⌜ Ready (now row) (Action.putCharacter false b) (state run (now lines) (now pages)) ⌝ }
     requires { ⌜ T (rowFits (now row)) ⌝ }
-    ensures { λ r. ⌜ outcome r (now (text .exit)) (now (lines .exit)) (now (pages .exit)) ≡ execute (now (row .entry)) (Action.putCharacter b) (state run (now (lines .entry)) (now (pages .entry))) (now (text .entry)) ⌝ }
+    ensures { λ r. ⌜ outcome r (now (text .exit)) (now (lines .exit)) (now (pages .exit)) ≡ execute (now (row .entry)) (Action.putCharacter false b) (state run (now (lines .entry)) (now (pages .entry))) (now (text .entry)) ⌝ }
 {
     if characters::is_printable(b) {
         if places::line_good(run, false, lines, pages) {
@@ -260,7 +294,7 @@ pub fn put_character(
             return running::finish(on);
         }
     }
-    try_character(run, b, text, lines, pages, row)
+    try_character(run, false, b, text, lines, pages, row)
 }
 
 // "Space: good line; reading, or writing before the logical end, c+1; writing at it, put a blank."

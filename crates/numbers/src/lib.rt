@@ -7,7 +7,7 @@ use rules::Position;
 use rules::Reply;
 ghost use mathlib.Core.Path.{_≡_};
 ghost use mathlib.Core.List.{[]};
-ghost use Rattle.rules.specs.Calls.{book, call, plain, asking, establishes, opens, closes, resets, backspaces, viewNumbers, putsCharacter, putsString, putsInteger, getsCharacter, getsString, getsInteger, spaces, newlines, newpages, sets, setsCharacterNumber};
+ghost use Rattle.rules.specs.Calls.{book, call, plain, asking, establishes, opens, closes, chooses, resets, backspaces, viewNumbers, putsCharacter, putsString, putsInteger, getsCharacter, getsString, getsInteger, spaces, newlines, newpages, sets, setsCharacterNumber};
 ghost use Rattle.rules.specs.Step.{eventNumber};
 ghost use Rattle.numbers.specs.Numbers.{afterNumbers, resultOf, InNumbers};
 
@@ -112,6 +112,21 @@ pub fn close(file: File, end: Position, text: &[u8], lines: &[u8], pages: &[u8])
     ensures { λ r. ⌜ afterNumbers (r .file) (r .result) [] (now (text .entry)) (now (lines .entry)) (now (pages .entry)) ≡ call (plain closes) file (book (now (text .entry)) (now (lines .entry)) (now (pages .entry)) end) ⌝ }
 {
     let reply = plain::close(file, end, text, lines, pages);
+    in_numbers(reply)
+}
+
+// Chooses what becomes of a string that does not fit on its line: the Report's split, or refusal 16.
+pub fn choose(
+    file: File,
+    end: Position,
+    split: bool,
+    text: &[u8],
+    lines: &[u8],
+    pages: &[u8],
+) -> Left
+    ensures { λ r. ⌜ afterNumbers (r .file) (r .result) [] (now (text .entry)) (now (lines .entry)) (now (pages .entry)) ≡ call (plain (chooses split)) file (book (now (text .entry)) (now (lines .entry)) (now (pages .entry)) end) ⌝ }
+{
+    let reply = plain::choose(file, end, split, text, lines, pages);
     in_numbers(reply)
 }
 

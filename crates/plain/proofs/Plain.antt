@@ -13,9 +13,9 @@ use Rattle.rules.specs.declared.File.{File}
 use Rattle.rules.specs.declared.Run.{Run}
 use Rattle.rules.specs.declared.Outcome.{Outcome}
 use Rattle.rules.specs.declared.Reply.{Reply}
-use Rattle.rules.specs.Book.{choose, State, state, onRun, runWith, withFile, fileWith, fileOpened, rewound, place, movedTo, previousCharacter, here, shapeOf, rightsOf, shapeFits, bookFits}
+use Rattle.rules.specs.Book.{choose, State, state, onRun, runWith, withFile, fileAs, fileChoosing, fileOpened, rewound, place, movedTo, previousCharacter, here, shapeOf, rightsOf, shapeFits, bookFits}
 use Rattle.rules.specs.Step.{Out, done, ends, Step, _>>=_, _>>_, pure, refusal, need, size, change, going, outcome, doneBy, refusedBy, reset, backspace}
-use Rattle.rules.specs.Calls.{Value, nothing, begin, established, establishing, opening, closing, resetting, backspacing, leave, after, book, call, work, plainWork, bufferOf, plain, establishes, opens, closes, resets, backspaces}
+use Rattle.rules.specs.Calls.{Value, nothing, begin, established, establishing, opening, closing, choosing, resetting, backspacing, leave, after, book, call, work, plainWork, bufferOf, plain, establishes, opens, closes, chooses, resets, backspaces}
 use Rattle.running.specs.Outcomes.{resetBy, backspacedBy}
 use Rattle.laws.proofs.Ways.{need-true, need-false, change-then, bind-done, bind-ends, test-true, test-false, with-value}
 use Rattle.entry.specs.Before.{beforeWork, refusedReply, endedReply}
@@ -32,6 +32,10 @@ sets-all l n b e =
 -- what close does
 abbrev pub closes-only : State → State
 closes-only s = onRun s (withFile (s .run) (fileOpened (s .run .file) false))
+
+-- what the choice does
+abbrev pub chooses-only : Bool → State → State
+chooses-only split s = onRun s (withFile (s .run) (fileChoosing (s .run .file) split))
 
 module _ (file : File) (end : Position) (t l p : List ℕ) where
   abbrev start : State
@@ -73,6 +77,10 @@ module _ (file : File) (end : Position) (t l p : List ℕ) where
   unfolding call work plainWork bufferOf closing
   close-is = refl
 
+  pub choose-is : (split : Bool) → call (plain (chooses split)) file (book t l p end) ≡ leave [] (begin (change (chooses-only split) >> pure nothing) start t)
+  unfolding call work plainWork bufferOf choosing
+  choose-is split = refl
+
   pub reset-is : call (plain resets) file (book t l p end) ≡ leave [] (begin (reset >> pure nothing) start t)
   unfolding call work plainWork bufferOf resetting
   reset-is = refl
@@ -93,11 +101,11 @@ module _ (file : File) (end : Position) (t l p : List ℕ) where
     establish-right n = need-true 3 (shapeFits (length t)) _ start t e ∙ need-false 4 (λ s. rightsOf s .put) _ start t n
 
     pub establish-done : file .rights .put ≡ true → {l′ p′ : List ℕ} → l′ ≡ replicate (file .shape .pages * file .shape .lines) (file .shape .characters) → p′ ≡ replicate (file .shape .pages) (file .shape .lines)
-        → establishing start t ≡ done nothing (startOf (fileWith file true false true (place 1 1 1)) (place 1 1 1) l′ p′) t
+        → establishing start t ≡ done nothing (startOf (fileAs file true false true (place 1 1 1) false) (place 1 1 1) l′ p′) t
     unfolding establishing established size _>>=_ pure
     establish-done n {l′ = l′} hl hp = need-true 3 (shapeFits (length t)) _ start t e ∙ need-true 4 (λ s. rightsOf s .put) _ start t n ∙ change-then established (λ _. pure nothing) start t
-        ∙ ap (λ (x : List ℕ). done nothing (startOf (fileWith file true false true (place 1 1 1)) (place 1 1 1) x (replicate (file .shape .pages) (file .shape .lines))) t) (sym hl)
-        ∙ ap (λ (x : List ℕ). done nothing (startOf (fileWith file true false true (place 1 1 1)) (place 1 1 1) l′ x) t) (sym hp)
+        ∙ ap (λ (x : List ℕ). done nothing (startOf (fileAs file true false true (place 1 1 1) false) (place 1 1 1) x (replicate (file .shape .pages) (file .shape .lines))) t) (sym hl)
+        ∙ ap (λ (x : List ℕ). done nothing (startOf (fileAs file true false true (place 1 1 1) false) (place 1 1 1) l′ x) t) (sym hp)
 
   -- ---- open
 
@@ -105,7 +113,7 @@ module _ (file : File) (end : Position) (t l p : List ℕ) where
   unfolding opening size _>>=_
   open-book e = need-false 3 (bookFits (length t)) _ start t e
 
-  pub open-done : bookFits (length t) start ≡ true → Does opening (rewound (fileOpened file true)) end
+  pub open-done : bookFits (length t) start ≡ true → Does opening (fileChoosing (rewound (fileOpened file true)) false) end
   unfolding opening size _>>=_ pure
   open-done e = need-true 3 (bookFits (length t)) _ start t e ∙ change-then _ (λ _. pure nothing) start t
 
@@ -114,6 +122,10 @@ module _ (file : File) (end : Position) (t l p : List ℕ) where
   pub close-done : (change closes-only >> pure nothing) start t ≡ done nothing (startOf (fileOpened file false) end l p) t
   unfolding _>>=_ pure change
   close-done = refl
+
+  pub choose-done : (split : Bool) → (change (chooses-only split) >> pure nothing) start t ≡ done nothing (startOf (fileChoosing file split) end l p) t
+  unfolding _>>=_ pure change
+  choose-done split = refl
 
   reset-yes : file .rights .reset ≡ true → reset start t ≡ done tt (startOf (rewound file) end l p) t
   unfolding reset change

@@ -1,23 +1,24 @@
-// The calls that signal no event: establish, open, close, reset and backspace. Each answers every record and book; what it hands back
-// and leaves is what `call` says.
+// The calls that signal no event: establish, open, close, the choice of C-14, reset and backspace. Each answers every record and book; what
+// it hands back and leaves is what `call` says.
 use rules::File;
 use rules::Position;
 use rules::Reply;
 ghost use mathlib.Core.Path.{_≡_};
 ghost use mathlib.Core.List.{[]};
 ghost use mathlib.Core.Bool.{true, false};
-ghost use Rattle.rules.specs.Book.{place, fileWith, fileOpened, rewound};
+ghost use Rattle.rules.specs.Book.{place, fileAs, fileChoosing, fileOpened, rewound};
 ghost use Rattle.plain.specs.Done.{doneReply};
-ghost use Rattle.rules.specs.Calls.{book, call, after, plain, establishes, opens, closes, resets, backspaces};
+ghost use Rattle.rules.specs.Calls.{book, call, after, plain, establishes, opens, closes, chooses, resets, backspaces};
 
 // The record that establish leaves: open, in write mood, at (1,1,1).
 pub fn established(file: File) -> File
-    ensures { λ r. ⌜ r ≡ fileWith file true false true (place 1 1 1) ⌝ }
+    ensures { λ r. ⌜ r ≡ fileAs file true false true (place 1 1 1) false ⌝ }
 {
     let mut r = file;
     r.opened = true;
     r.reading = false;
     r.writing = true;
+    r.split = false;
     r.position.page = 1;
     r.position.line = 1;
     r.position.character = 1;
@@ -26,7 +27,7 @@ pub fn established(file: File) -> File
 
 // The record that open leaves: open, its moods by its rights, at (1,1,1).
 pub fn opened(file: File) -> File
-    ensures { λ r. ⌜ r ≡ rewound (fileOpened file true) ⌝ }
+    ensures { λ r. ⌜ r ≡ fileChoosing (rewound (fileOpened file true)) false ⌝ }
 {
     let mut r = file;
     let reading = !file.rights.put;
@@ -34,6 +35,7 @@ pub fn opened(file: File) -> File
     r.opened = true;
     r.reading = reading;
     r.writing = writing;
+    r.split = false;
     r.position.page = 1;
     r.position.line = 1;
     r.position.character = 1;
@@ -101,6 +103,27 @@ pub fn close(file: File, end: Position, text: &[u8], lines: &[u8], pages: &[u8])
     let mut closed = file;
     closed.opened = false;
     done(closed, end)
+}
+
+// Chooses what becomes of a string that does not fit on its line: the Report's split, or refusal 16.
+pub fn choose(
+    file: File,
+    end: Position,
+    split: bool,
+    text: &[u8],
+    lines: &[u8],
+    pages: &[u8],
+) -> Reply
+    ensures { λ r. ⌜ after r [] (now (text .entry)) (now (lines .entry)) (now (pages .entry)) ≡ call (plain (chooses split)) file (book (now (text .entry)) (now (lines .entry)) (now (pages .entry)) end) ⌝ }
+{
+    let start = entry::start(file, end);
+    let number = entry::number_before(start, text, lines, pages);
+    if number != 0 {
+        return entry::refuse(start, number);
+    }
+    let mut chosen = file;
+    chosen.split = split;
+    done(chosen, end)
 }
 
 // Resets the record: its moods by its rights, at (1,1,1).

@@ -14,7 +14,7 @@ use Rattle.rules.specs.Book.{State, state, runWith}
 use Rattle.rules.specs.Step.{Out, done, ends, Step, _>>=_, _>>_, pure, need, going, outcome, outcomeGiving}
 use Rattle.rules.specs.Steps.{putCharacter, execute}
 use Rattle.rules.specs.Whole.{wholeText, lowest}
-use Rattle.rules.specs.Calls.{Value, nothing, begin, needRow, putting, putCharacters, puttingString, putText, puttingInteger, leave, after, book, call, work, askingWork, bufferOf, asking, putsCharacter, putsString, putsInteger}
+use Rattle.rules.specs.Calls.{Value, nothing, begin, needRow, putting, putCharacters, puttingCharacters, putText, puttingInteger, leave, after, book, call, work, askingWork, bufferOf, asking, putsCharacter, putsString, putsInteger}
 use Rattle.laws.proofs.Ways.{with-value}
 use Rattle.entry.specs.Before.{endedReply}
 use Rattle.begins.specs.Begin.{preparedBy, lowestBy}
@@ -30,21 +30,21 @@ module _ (row : List ℕ) (file : File) (end : Position) (t l p : List ℕ) wher
 
     module _ (bs : List ℕ) where
       pub string-refused : going (o .status) ≡ false → {reply : Reply} → reply ≡ endedReply o → after reply [] t l p ≡ call (asking (putsString bs) row) file (book t l p end)
-      unfolding call work askingWork bufferOf puttingString
-      string-refused e q = call-refused [] o t l p (putCharacters row bs >> pure nothing) (put-from (putCharacters row bs >> pure nothing)) e q
+      unfolding call work askingWork bufferOf puttingCharacters
+      string-refused e q = call-refused [] o t l p (putCharacters row true bs >> pure nothing) (put-from (putCharacters row true bs >> pure nothing)) e q
 
-      pub string-put : going (o .status) ≡ true → (y : Outcome) (t′ l′ p′ : List ℕ) → outcome y t′ l′ p′ ≡ putCharacters row bs (state (o .run) l p) t → {reply : Reply} → reply ≡ endedReply y → after reply [] t′ l′ p′ ≡ call (asking (putsString bs) row) file (book t l p end)
-      unfolding call work askingWork bufferOf puttingString
-      string-put e y t′ l′ p′ c q = call-worked [] o t l p _ (put-from (putCharacters row bs >> pure nothing)) (putCharacters row bs) (λ u t. refl) e y t′ l′ p′ c q
+      pub string-put : going (o .status) ≡ true → (y : Outcome) (t′ l′ p′ : List ℕ) → outcome y t′ l′ p′ ≡ putCharacters row true bs (state (o .run) l p) t → {reply : Reply} → reply ≡ endedReply y → after reply [] t′ l′ p′ ≡ call (asking (putsString bs) row) file (book t l p end)
+      unfolding call work askingWork bufferOf puttingCharacters
+      string-put e y t′ l′ p′ c q = call-worked [] o t l p _ (put-from (putCharacters row true bs >> pure nothing)) (putCharacters row true bs) (λ u t. refl) e y t′ l′ p′ c q
 
     module _ (b : ℕ) where
       pub character-refused : going (o .status) ≡ false → {reply : Reply} → reply ≡ endedReply o → after reply [] t l p ≡ call (asking (putsCharacter b) row) file (book t l p end)
-      unfolding call work askingWork bufferOf puttingString
-      character-refused e q = call-refused [] o t l p (putCharacters row (b ∷ []) >> pure nothing) (put-from (putCharacters row (b ∷ []) >> pure nothing)) e q
+      unfolding call work askingWork bufferOf puttingCharacters
+      character-refused e q = call-refused [] o t l p (putCharacters row false (b ∷ []) >> pure nothing) (put-from (putCharacters row false (b ∷ []) >> pure nothing)) e q
 
-      pub character-put : going (o .status) ≡ true → (y : Outcome) (t′ l′ p′ : List ℕ) → outcome y t′ l′ p′ ≡ execute row (putCharacter b) (state (o .run) l p) t → {reply : Reply} → reply ≡ endedReply y → after reply [] t′ l′ p′ ≡ call (asking (putsCharacter b) row) file (book t l p end)
-      unfolding call work askingWork bufferOf puttingString putCharacters
-      character-put e y t′ l′ p′ c q = call-worked [] o t l p _ (put-from (putCharacters row (b ∷ []) >> pure nothing)) (putCharacters row (b ∷ [])) (λ u t. refl) e y t′ l′ p′ (with-value tt y t′ l′ p′ (execute row (putCharacter b)) (state (o .run) l p) t c) q
+      pub character-put : going (o .status) ≡ true → (y : Outcome) (t′ l′ p′ : List ℕ) → outcome y t′ l′ p′ ≡ execute row (putCharacter false b) (state (o .run) l p) t → {reply : Reply} → reply ≡ endedReply y → after reply [] t′ l′ p′ ≡ call (asking (putsCharacter b) row) file (book t l p end)
+      unfolding call work askingWork bufferOf puttingCharacters putCharacters
+      character-put e y t′ l′ p′ c q = call-worked [] o t l p _ (put-from (putCharacters row false (b ∷ []) >> pure nothing)) (putCharacters row false (b ∷ [])) (λ u t. refl) e y t′ l′ p′ (with-value tt y t′ l′ p′ (execute row (putCharacter false b)) (state (o .run) l p) t c) q
 
     module _ (v : ℤ) (n : lowest v ≡ false) where
       integer-from : Leads (begin (needRow row >> (need 9 (λ _. not (lowest v)) >> (putting >> (putText row (wholeText v (pos 11)) >> pure nothing)))) start t) o (state (o .run) l p) t (putText row (wholeText v (pos 11)) >> pure nothing)

@@ -168,7 +168,7 @@ module _ (s : State) (t : List ℕ) (o : Readable s) where
 
   line-stops : fileEnded true (twelfth .run) ≡ false → lineEnded twelfth ≡ true → execute [] (goodLine true true) twelfth t ≡ ends (stopped 2) (onRun twelfth (signalledBy [] (twelfth .run))) t
   line-stops e l = held-event-ends _ _ _ _ twelfth t (law-goodLine [] true true twelfth t (ready-there (goodLine true true))) (page-good e) l
-      (sym (lineEnd-stops [] true true twelfth t (ready-there (atLineEnd true true)) (asked twelfth) refl refl refl))
+      (sym (lineEnd-stops [] true true twelfth t (ready-there (atLineEnd true true)) (asked twelfth) refl refl refl refl))
 
   other-stays : (v : ℕ) → fileEnded true (twelfth .run) ≡ false → lineEnded twelfth ≡ false → NoMore twelfth t → execute [] (moreDigits v) twelfth t ≡ done v twelfth t
   other-stays v e l (file q) = absurd (let z : _≡_ {A = ℕ} 0 1 = cc in omega arith)

@@ -109,7 +109,7 @@ abbrev pub everyRight : Rights
 everyRight = record { get = true; put = true; «set» = true; reset = true; compress = true }
 
 abbrev pub opener : File
-opener = record { opened = true; reading = false; writing = false; position = place 1 1 1; shape = smallest; rights = everyRight }
+opener = record { opened = true; reading = false; writing = false; position = place 1 1 1; shape = smallest; rights = everyRight; split = false }
 
 abbrev pub oneLine : Book
 oneLine = book (replicate 11 0) (11 ∷ []) (1 ∷ []) (place 1 1 1)

@@ -14,12 +14,12 @@ use Rattle.rules.specs.declared.Position.{Position}
 use Rattle.rules.specs.declared.Rights.{Rights}
 use Rattle.rules.specs.declared.Shape.{Shape}
 use Rattle.rules.specs.declared.File.{File}
-use Rattle.rules.specs.Book.{Event, logicalEnd, physicalEnd, pageEnd, lineEnd, within, place, before, pageLength, lineIndex, lineLength, characterIndex, inBounds, nextWord, kindOf, placeOf, mendingOf, answerOf, suggested, wordFits, allWordsFit, rowFits, legal, sizesFit, allUpTo, lengthsFit, someRight, moodsFit, shapeFits, bookFits, allFits}
+use Rattle.rules.specs.Book.{fileChoosing, Event, logicalEnd, physicalEnd, pageEnd, lineEnd, within, place, before, pageLength, lineIndex, lineLength, characterIndex, inBounds, nextWord, kindOf, placeOf, mendingOf, answerOf, suggested, wordFits, allWordsFit, rowFits, legal, sizesFit, allUpTo, lengthsFit, someRight, moodsFit, shapeFits, bookFits, allFits}
 use Rattle.rules.specs.Step.{Ending, refusal, refusalAt, stopped, finished, _>>=_, pure, halt, attempt, look, change, branch, test, fileEnded, signal, moodOn, backspace, reset, characterHere, size, allFrom, restoredFrom, store, blanks, blankLine, blankLines, cutLine, cutPage, fillLine, fillPage, endLine, endPage}
-use Rattle.rules.specs.Steps.{printable, digit, fitsHere, signals, signalWhile, goodFileBody, goodPageBody, atPageEndBody, goodLineBody, atLineEndBody, newlineBody, newpageBody, setToBody, performBody, answeredBody, characterEvent, putCharacterBody, roomForBody, passBlanksBody, moreDigitsBody, spaceStep, setCharacterNumberBody, body, spent, supply, bounded, execute}
+use Rattle.rules.specs.Steps.{stringEnd, printable, digit, fitsHere, signals, signalWhile, goodFileBody, goodPageBody, atPageEndBody, goodLineBody, atLineEndBody, newlineBody, newpageBody, setToBody, performBody, answeredBody, characterEvent, putCharacterBody, roomForBody, passBlanksBody, moreDigitsBody, spaceStep, setCharacterNumberBody, body, spent, supply, bounded, execute}
 use Rattle.rules.specs.Steps as Steps
 use Rattle.rules.specs.Whole.{digitsUpTo, signed, padded, wholeText, lowest, Written, whole}
-use Rattle.rules.specs.Calls.{Value, nothing, aCharacter, anInteger, aView, aString, begin, turnable, established, establishing, opening, closing, resetting, backspacing, shown, shownLength, shownPart, orMarker, viewing, viewNumber, putCharacters, puttingString, putText, puttingInteger, takeCharacter, gettingCharacter, oneOf, stringCharacter, getCharacters, gettingString, firstDigit, withSign, integerGiven, signBefore, takeInteger, gettingInteger, spacing, newlining, newpaging, settingCharacterNumber, setting, Call, plain, asking, establishes, opens, closes, resets, backspaces, views, viewNumbers, putsCharacter, putsString, putsInteger, getsCharacter, getsInteger, spaces, newlines, newpages, getsString, sets, setsCharacterNumber, plainWork, askingWork, work, bufferOf, Book, book, Result, After, Ran, leave, call, run}
+use Rattle.rules.specs.Calls.{chooses, choosing, Value, nothing, aCharacter, anInteger, aView, aString, begin, turnable, established, establishing, opening, closing, resetting, backspacing, shown, shownLength, shownPart, orMarker, viewing, viewNumber, putCharacters, puttingCharacters, putText, puttingInteger, takeCharacter, gettingCharacter, oneOf, stringCharacter, getCharacters, gettingString, firstDigit, withSign, integerGiven, signBefore, takeInteger, gettingInteger, spacing, newlining, newpaging, settingCharacterNumber, setting, Call, plain, asking, establishes, opens, closes, resets, backspaces, views, viewNumbers, putsCharacter, putsString, putsInteger, getsCharacter, getsInteger, spaces, newlines, newpages, getsString, sets, setsCharacterNumber, plainWork, askingWork, work, bufferOf, Book, book, Result, After, Ran, leave, call, run}
 
 -- ---- books, records and calls in short
 
@@ -44,7 +44,11 @@ random = record { get = true; put = true; «set» = true; reset = true; compress
 -- a record of a shape, with moods and a position
 abbrev record-of : Rights → ℕ → ℕ → ℕ → Bool → Bool → Bool → Position → File
 record-of rights p l c opened reading writing x =
-    record { opened = opened; reading = reading; writing = writing; position = x; shape = record { pages = p; lines = l; characters = c }; rights = rights }
+    record { opened = opened; reading = reading; writing = writing; position = x; shape = record { pages = p; lines = l; characters = c }; rights = rights; split = false }
+
+-- the same with the Report's split (document 02, C-14)
+abbrev splitting : File → File
+splitting f = fileChoosing f true
 
 -- the record of the book 2·3·8, writing or reading or in no mood, at a position
 abbrev writing : Position → File
@@ -101,28 +105,36 @@ get20 row = asking (getsString [] (replicate 20 63)) row
 
 -- ---- E1 to E11
 
+-- E1 to E5 are kept under the Report's split (document 02, C-14)
+abbrev begun : List Call
+begun = plain establishes ∷ plain (chooses true) ∷ []
+
 abbrev ten : List Call
-ten = plain establishes ∷ put "abcdefghij" ∷ []
+ten = begun ++ (put "abcdefghij" ∷ [])
 
 -- "put "abcdefghij": line 1 "abcdefgh", position and end (1,2,3), one event"
 abbrev E1 : Type 0
-E1 = after ten ≡ leaves (says 0 1 0) (writing (place 1 2 3)) (holds "abcdefghij" (place 1 2 3))
+E1 = after ten ≡ leaves (says 0 1 0) (splitting (writing (place 1 2 3))) (holds "abcdefghij" (place 1 2 3))
+
+-- "E1 gains a twin": without the choice of the split, refusal 16 at the line end; "what was stored stays, and nothing more is stored"
+abbrev E1Twin : Type 0
+E1Twin = after (plain establishes ∷ put "abcdefghij" ∷ []) ≡ leaves (tells 16 lineEnd (place 1 1 9) 1 0) (writing (place 1 1 9)) (holds "abcdefgh" (place 1 1 9))
 
 -- "then reset, get a string into 20: "abcdefgh", stop 2, (1,1,9)"
 abbrev E2 : Type 0
-E2 = after (ten ++ (plain resets ∷ get20 [] ∷ [])) ≡ leaves (got (stopped 2) 1 0 "abcdefgh") (reading (place 1 1 9)) (holds "abcdefghij" (place 1 2 3))
+E2 = after (ten ++ (plain resets ∷ get20 [] ∷ [])) ≡ leaves (got (stopped 2) 1 0 "abcdefgh") (splitting (reading (place 1 1 9))) (holds "abcdefghij" (place 1 2 3))
 
 -- "again: empty, stop 2"
 abbrev E3 : Type 0
-E3 = after (ten ++ (plain resets ∷ get20 [] ∷ get20 [] ∷ [])) ≡ leaves (got (stopped 2) 1 0 "") (reading (place 1 1 9)) (holds "abcdefghij" (place 1 2 3))
+E3 = after (ten ++ (plain resets ∷ get20 [] ∷ get20 [] ∷ [])) ≡ leaves (got (stopped 2) 1 0 "") (splitting (reading (place 1 1 9))) (holds "abcdefghij" (place 1 2 3))
 
 -- "instead of E3, row of one newline: "ij", stop 3, two events, one answer"
 abbrev E4 : Type 0
-E4 = after (ten ++ (plain resets ∷ get20 [] ∷ get20 (0x20000000 ∷ []) ∷ [])) ≡ leaves (got (stopped 3) 2 1 "ij") (reading (place 1 2 3)) (holds "abcdefghij" (place 1 2 3))
+E4 = after (ten ++ (plain resets ∷ get20 [] ∷ get20 (0x20000000 ∷ []) ∷ [])) ≡ leaves (got (stopped 3) 2 1 "ij") (splitting (reading (place 1 2 3))) (holds "abcdefghij" (place 1 2 3))
 
 -- "after E1, reset, put "Z": end (1,1,2)"
 abbrev E5 : Type 0
-E5 = after (ten ++ (plain resets ∷ put "Z" ∷ [])) ≡ leaves (says 0 0 0) (writing (place 1 1 2)) (holds "Zbcdefghij" (place 1 1 2))
+E5 = after (ten ++ (plain resets ∷ put "Z" ∷ [])) ≡ leaves (says 0 0 0) (splitting (writing (place 1 1 2))) (holds "Zbcdefghij" (place 1 1 2))
 
 -- "fresh, "abcdef", set char number 3, put "X": "abXdef", end still (1,1,7)"
 abbrev E6 : Type 0
@@ -191,8 +203,8 @@ FilledPage = lastly blanking 2 2 4 (plain establishes ∷ put "abc" ∷ asking n
 
 -- newpage with compress cuts the line at c-1 and the page after it
 abbrev CutPage : Type 0
-CutPage = lastly usual 2 3 4 (plain establishes ∷ put "abcdef" ∷ asking newpages [] ∷ [])
-    ≡ leaves (says 0 0 0) (record-of usual 2 3 4 true false true (place 2 1 1)) (book (stored 24 "abcdef") (4 ∷ 2 ∷ 4 ∷ 4 ∷ 4 ∷ 4 ∷ []) (2 ∷ 3 ∷ []) (place 2 1 1))
+CutPage = lastly usual 2 3 4 (begun ++ (put "abcdef" ∷ asking newpages [] ∷ []))
+    ≡ leaves (says 0 0 0) (splitting (record-of usual 2 3 4 true false true (place 2 1 1))) (book (stored 24 "abcdef") (4 ∷ 2 ∷ 4 ∷ 4 ∷ 4 ∷ 4 ∷ []) (2 ∷ 3 ∷ []) (place 2 1 1))
 
 -- the page before the line, if c = 1
 abbrev CutPageBefore : Type 0
@@ -201,15 +213,15 @@ CutPageBefore = lastly usual 2 3 4 (plain establishes ∷ put "abc" ∷ asking n
 
 -- good file is tested again after each default: line end, page end, then physical end, refusal 15
 abbrev Afresh : Type 0
-Afresh = lastly usual 1 1 1 (plain establishes ∷ put "aa" ∷ [])
-    ≡ leaves (tells 15 physicalEnd (place 2 1 1) 3 0) (record-of usual 1 1 1 true false true (place 2 1 1)) (book (stored 1 "a") (1 ∷ []) (1 ∷ []) (place 2 1 1))
+Afresh = lastly usual 1 1 1 (begun ++ (put "aa" ∷ []))
+    ≡ leaves (tells 15 physicalEnd (place 2 1 1) 3 0) (splitting (record-of usual 1 1 1 true false true (place 2 1 1))) (book (stored 1 "a") (1 ∷ []) (1 ∷ []) (place 2 1 1))
 
 -- an event inside an answer takes the next answer of the row, and its refusal ends the outer call: page end is answered newline, whose
 -- own page end is answered newpage; that newline starts again at the logical end, which is answered by nothing. "Nested answers report the
 -- innermost event."
 abbrev Nested : Type 0
-Nested = lastly usual 2 1 2 (plain establishes ∷ put "abcd" ∷ plain resets ∷ get20 [] ∷ asking newlines [] ∷ asking getsCharacter (0x20000000 ∷ 0x30000000 ∷ []) ∷ [])
-    ≡ leaves (tells 14 logicalEnd (place 2 1 3) 3 2) (record-of usual 2 1 2 true true false (place 2 1 3)) (book (stored 4 "abcd") (2 ∷ 2 ∷ []) (1 ∷ 1 ∷ []) (place 2 1 3))
+Nested = lastly usual 2 1 2 (begun ++ (put "abcd" ∷ plain resets ∷ get20 [] ∷ asking newlines [] ∷ asking getsCharacter (0x20000000 ∷ 0x30000000 ∷ []) ∷ []))
+    ≡ leaves (tells 14 logicalEnd (place 2 1 3) 3 2) (splitting (record-of usual 2 1 2 true true false (place 2 1 3))) (book (stored 4 "abcd") (2 ∷ 2 ∷ []) (1 ∷ 1 ∷ []) (place 2 1 3))
 
 -- kind 8: the call ends with 11, after the event is counted
 abbrev Jumped : Type 0
@@ -218,8 +230,8 @@ Jumped = after (plain establishes ∷ put "ab" ∷ plain resets ∷ asking getsI
 
 -- an integer with its sign, blanks and a line end before it
 abbrev Read : Type 0
-Read = lastly usual 1 2 8 (plain establishes ∷ put "   -  12" ∷ put "34,5" ∷ plain resets ∷ asking getsInteger (0x20000000 ∷ []) ∷ [])
-    ≡ leaves (gives 0 1 1 (anInteger (negsuc 1233))) (record-of usual 1 2 8 true true false (place 1 2 3)) (book (stored 16 "   -  1234,5") (8 ∷ 8 ∷ []) (2 ∷ []) (place 1 2 5))
+Read = lastly usual 1 2 8 (begun ++ (put "   -  12" ∷ put "34,5" ∷ plain resets ∷ asking getsInteger (0x20000000 ∷ []) ∷ []))
+    ≡ leaves (gives 0 1 1 (anInteger (negsuc 1233))) (splitting (record-of usual 1 2 8 true true false (place 1 2 3))) (book (stored 16 "   -  1234,5") (8 ∷ 8 ∷ []) (2 ∷ []) (place 1 2 5))
 
 -- an integer too large: value, answered 1, is done with no value given
 abbrev TooLarge : Type 0
@@ -297,6 +309,10 @@ Nights = (after (plain establishes ∷ night) ≡ morning) × (after (plain esta
 abbrev Longer : Type 0
 Longer = after (plain establishes ∷ put "abc" ∷ asking newlines [] ∷ put "de" ∷ plain resets ∷ put "permit a" ∷ []) ≡ leaves (says 0 0 0) (writing (place 1 1 9)) (holds "permit ade" (place 1 1 9))
 
+-- a channel that may only get
+abbrev getting : Rights
+getting = record { get = true; put = false; «set» = false; reset = false; compress = false }
+
 -- a book that is only put, so that newline after reset moves to the second line
 abbrev putting : Rights
 putting = record { get = false; put = true; «set» = false; reset = true; compress = true }
@@ -321,19 +337,41 @@ Compressible = (rewriting usual .book ≡ book (stored 8 "a") (4 ∷ 4 ∷ []) (
 -- what the request does not reach: a first line of length 0, onto which no character can be stored, stays so; an integer on a line that is
 -- still short is refusal 10
 abbrev NotReached : Type 0
-NotReached = (after (plain establishes ∷ asking newlines [] ∷ put "ab" ∷ plain resets ∷ put "cd" ∷ [])
-    ≡ leaves (says 0 1 0) (writing (place 1 2 3)) (book (stored 48 "????????cd") (0 ∷ 8 ∷ 8 ∷ 8 ∷ 8 ∷ 8 ∷ []) (replicate 2 3) (place 1 2 3)))
+NotReached = (after (begun ++ (asking newlines [] ∷ put "ab" ∷ plain resets ∷ put "cd" ∷ []))
+    ≡ leaves (says 0 1 0) (splitting (writing (place 1 2 3))) (book (stored 48 "????????cd") (0 ∷ 8 ∷ 8 ∷ 8 ∷ 8 ∷ 8 ∷ []) (replicate 2 3) (place 1 2 3)))
     × (lastly usual 1 2 12 (plain establishes ∷ put "abc" ∷ asking newlines [] ∷ put "d" ∷ plain resets ∷ asking (putsInteger (pos 7)) [] ∷ [])
     ≡ leaves (says 10 0 0) (record-of usual 1 2 12 true false true (place 1 1 1)) (book (stored 24 "abc?????????d") (3 ∷ 12 ∷ []) (2 ∷ []) (place 1 2 2)))
 
-pub table : (E1 × E2 × E3 × E4 × E5 × E6 × E7 × E8 × E9 × E10 × E11 × Shown)
+-- ---- no more split addresses (document 02, C-14)
+
+-- "Other answers do as before in both": a newline in answer to the line end
+abbrev Answered : Type 0
+Answered = after (plain establishes ∷ asking (putsString (bytes "abcdefghij")) (0x20000000 ∷ []) ∷ []) ≡ leaves (says 0 1 1) (writing (place 1 2 3)) (holds "abcdefghij" (place 1 2 3))
+
+-- "Integers keep the newline", and so does a character that is put by itself
+abbrev KeepNewline : Type 0
+KeepNewline = (lastly usual 1 2 12 (plain establishes ∷ put "abc" ∷ asking (putsInteger (pos 7)) [] ∷ [])
+    ≡ leaves (says 0 1 0) (record-of usual 1 2 12 true false true (place 1 2 12)) (book (stored 24 "abc?????????         +7") (3 ∷ 12 ∷ []) (2 ∷ []) (place 1 2 12)))
+    × (lastly usual 1 2 2 (plain establishes ∷ put "ab" ∷ asking (putsCharacter 99) [] ∷ [])
+    ≡ leaves (says 0 1 0) (record-of usual 1 2 2 true false true (place 1 2 2)) (book (stored 4 "abc") (2 ∷ 2 ∷ []) (2 ∷ []) (place 1 2 2)))
+
+-- "A call sets either on an open record, needing no right or mood": on a record that may only get, with no mood on; 1 where it is not open
+abbrev Chosen : Type 0
+Chosen = let f = record-of getting 1 2 4 true false false (place 1 1 1) in
+    let b = book (stored 8 "") (4 ∷ 4 ∷ []) (2 ∷ []) (place 1 1 1) in
+    (run (plain (chooses true) ∷ []) f b .file ≡ splitting f) × (run (plain (chooses true) ∷ plain (chooses false) ∷ []) f b .file ≡ f)
+    × (lastOf (run (plain closes ∷ plain (chooses true) ∷ []) f b .results) ≡ says 1 0 0)
+
+pub table : (E1 × E1Twin × E2 × E3 × E4 × E5 × E6 × E7 × E8 × E9 × E10 × E11 × Shown)
     × (FileFirst × Filled × FilledPage × CutPage × CutPageBefore × Afresh × Nested × Jumped × Read × TooLarge × SetBeyond × ViewToEnd × Refused)
     × (AtPageEnd × AtLineEnd × AtCharacter × AtValue × InAnswer)
     × (Nights × Longer × FromThere × Compressible × NotReached)
-unfolding within before pageLength lineIndex lineLength characterIndex inBounds nextWord kindOf placeOf mendingOf answerOf suggested wordFits allWordsFit rowFits legal sizesFit allUpTo lengthsFit someRight moodsFit shapeFits bookFits allFits _>>=_ pure halt attempt look change branch test fileEnded signal moodOn backspace reset characterHere size allFrom restoredFrom store blanks blankLine blankLines cutLine cutPage fillLine fillPage endLine endPage printable digit fitsHere Steps.backspaces signals signalWhile goodFileBody goodPageBody atPageEndBody goodLineBody atLineEndBody newlineBody newpageBody setToBody performBody answeredBody characterEvent putCharacterBody roomForBody passBlanksBody moreDigitsBody spaceStep setCharacterNumberBody body spent supply bounded execute digitsUpTo signed padded wholeText lowest whole begin turnable established establishing opening closing resetting backspacing shown shownLength shownPart orMarker viewing viewNumber putCharacters puttingString putText puttingInteger takeCharacter gettingCharacter oneOf stringCharacter getCharacters gettingString firstDigit withSign integerGiven signBefore takeInteger gettingInteger spacing newlining newpaging settingCharacterNumber setting plainWork askingWork work bufferOf leave call run
+    × (Answered × KeepNewline × Chosen)
+unfolding within before pageLength lineIndex lineLength characterIndex inBounds nextWord kindOf placeOf mendingOf answerOf suggested wordFits allWordsFit rowFits legal sizesFit allUpTo lengthsFit someRight moodsFit shapeFits bookFits allFits _>>=_ pure halt attempt look change branch test fileEnded signal moodOn backspace reset characterHere size allFrom restoredFrom store blanks blankLine blankLines cutLine cutPage fillLine fillPage endLine endPage printable digit fitsHere Steps.backspaces signals signalWhile goodFileBody goodPageBody atPageEndBody goodLineBody stringEnd atLineEndBody newlineBody newpageBody setToBody performBody answeredBody characterEvent putCharacterBody roomForBody passBlanksBody moreDigitsBody spaceStep setCharacterNumberBody body spent supply bounded execute digitsUpTo signed padded wholeText lowest whole begin turnable established establishing opening closing choosing resetting backspacing shown shownLength shownPart orMarker viewing viewNumber putCharacters puttingCharacters putText puttingInteger takeCharacter gettingCharacter oneOf stringCharacter getCharacters gettingString firstDigit withSign integerGiven signBefore takeInteger gettingInteger spacing newlining newpaging settingCharacterNumber setting plainWork askingWork work bufferOf leave call run
 table = (
-  (refl, refl, refl, refl, refl, refl, refl, refl, (refl, refl, refl, refl), (refl, refl), (refl, refl), (refl, refl, refl, refl)),
+  (refl, refl, refl, refl, refl, refl, refl, refl, refl, (refl, refl, refl, refl), (refl, refl), (refl, refl), (refl, refl, refl, refl)),
   (refl, refl, refl, refl, refl, refl, refl, refl, refl, refl, refl, (refl, refl), (refl, refl, refl, refl, refl, refl)),
   (refl, refl, (refl, refl), refl, refl),
   ((refl, refl, refl), refl, refl, (refl, refl, refl), (refl, refl)),
+  (refl, (refl, refl), (refl, refl, refl)),
 )

@@ -77,9 +77,12 @@ inBounds h f x = within 1 (x .page) (h .pages + 1)
 
 -- ---- changes of the record and of the running call: a new field of either stands in these two literals and in no other
 
+abbrev pub fileAs : File → Bool → Bool → Bool → Position → Bool → File
+fileAs f opened reading writing position split =
+    record { opened = opened; reading = reading; writing = writing; position = position; shape = f .shape; rights = f .rights; split = split }
+
 abbrev pub fileWith : File → Bool → Bool → Bool → Position → File
-fileWith f opened reading writing position =
-    record { opened = opened; reading = reading; writing = writing; position = position; shape = f .shape; rights = f .rights }
+fileWith f opened reading writing position = fileAs f opened reading writing position (f .split)
 
 abbrev pub runWith : File → Position → ℕ → ℕ → Run
 runWith file end events taken = record { file = file; end = end; events = events; taken = taken }
@@ -102,6 +105,10 @@ fileMoods f reading writing = fileWith f (f .opened) reading writing (f .positio
 
 abbrev pub fileOpened : File → Bool → File
 fileOpened f opened = fileWith f opened (f .reading) (f .writing) (f .position)
+
+-- the record with "a choice between this and the Report's split" (document 02, C-14): true for the split
+abbrev pub fileChoosing : File → Bool → File
+fileChoosing f split = fileAs f (f .opened) (f .reading) (f .writing) (f .position) split
 
 -- the position moved; position and logical end moved
 abbrev pub movedTo : Run → Position → Run

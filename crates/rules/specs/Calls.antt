@@ -12,7 +12,7 @@ use Rattle.rules.specs.declared.Run.{Run}
 use Rattle.rules.specs.declared.Given.{Given}
 use Rattle.rules.specs.declared.Given.the-variants.{Nothing, Character, Integer}
 use Rattle.rules.specs.declared.Reply.{Reply}
-use Rattle.rules.specs.Book.{choose, place, before, within, pageLength, lineLength, characterIndex, State, state, onRun, withLengths, here, endOf, shapeOf, rightsOf, fileWith, fileOpened, runWith, withFile, rewound, rowFits, shapeFits, bookFits, allFits, Event}
+use Rattle.rules.specs.Book.{choose, place, before, within, pageLength, lineLength, characterIndex, State, state, onRun, withLengths, here, endOf, shapeOf, rightsOf, fileAs, fileChoosing, fileOpened, runWith, withFile, rewound, rowFits, shapeFits, bookFits, allFits, Event}
 use Rattle.rules.specs.Step.{Ending, refusalAt, endingAs, Out, done, ends, Step, _>>=_, _>>_, pure, halt, refuse, refuseAt, stopped, finished, attempt, look, change, changeRun, branch, test, need, again, pass, moodOn, backspace, reset, characterHere, size}
 use Rattle.rules.specs.Steps.{Action, Gives, goodLine, newline, newpage, setTo, putCharacter, roomFor, passBlanks, moreDigits, setCharacterNumber, printable, digit, signals, characterEvent, spaceStep, execute}
 use Rattle.rules.specs.Whole.{wholeText, lowest}
@@ -65,7 +65,7 @@ getting = do
 -- "sets every length to C and L, the logical end and position to (1,1,1), write mood on, read mood off, and wipes no character"
 unfoldable pub established : State → State
 established s = let h = shapeOf s in
-    state (runWith (fileWith (s .run .file) true false true (place 1 1 1)) (place 1 1 1) (s .run .events) (s .run .taken))
+    state (runWith (fileAs (s .run .file) true false true (place 1 1 1) false) (place 1 1 1) (s .run .events) (s .run .taken))
     (replicate (h .pages * h .lines) (h .characters)) (replicate (h .pages) (h .lines))
 
 -- "Establish needs put". "Establish and open start at 3, need no open record, and do not look at what they set."
@@ -77,18 +77,25 @@ establishing = do
   change established
   pure nothing
 
+-- "establish and open choose the new one", the refusal (document 02, C-14)
 -- "Open takes a book with the logical end it has". "Open and reset set read mood to "put not possible" .."
 unfoldable pub opening : Step Value
 opening = do
   n ← size
   need 3 (bookFits n)
-  changeRun (λ r. withFile r (rewound (fileOpened (r .file) true)))
+  changeRun (λ r. withFile r (fileChoosing (rewound (fileOpened (r .file) true)) false))
   pure nothing
 
 -- "Close only clears `opened`." "Views and close need no right and no mood."
 unfoldable pub closing : Step Value
 closing = begin do
   changeRun (λ r. withFile r (fileOpened (r .file) false))
+  pure nothing
+
+-- "A call sets either on an open record, needing no right or mood." (document 02, C-14)
+unfoldable pub choosing : Bool → Step Value
+choosing split = begin do
+  changeRun (λ r. withFile r (fileChoosing (r .file) split))
   pure nothing
 
 unfoldable pub resetting : Step Value
@@ -147,26 +154,27 @@ withSign true (suc n) = negsuc n
 withSign false n = pos n
 
 module _ (row : List ℕ) where
-  -- "Put a string: its characters in turn; an empty one only turns the mood."
-  unfoldable pub putCharacters : List ℕ → Step Unit
-  putCharacters [] = pure tt
-  putCharacters (b ∷ bs) = do
-    execute row (putCharacter b)
-    putCharacters bs
+  -- "Put a string: its characters in turn; an empty one only turns the mood." The first Bool says whether they follow the record's choice at
+  -- a line end: a string's do, a character put by itself and an integer's text do not (document 02, C-14).
+  unfoldable pub putCharacters : Bool → List ℕ → Step Unit
+  putCharacters string [] = pure tt
+  putCharacters string (b ∷ bs) = do
+    execute row (putCharacter string b)
+    putCharacters string bs
 
-  unfoldable pub puttingString : List ℕ → Step Value
-  puttingString bs = begin do
+  unfoldable pub puttingCharacters : Bool → List ℕ → Step Value
+  puttingCharacters string bs = begin do
     needRow row
     putting
-    putCharacters bs
+    putCharacters string bs
     pure nothing
 
   -- "Then a blank when c is not 1, and the text."
   unfoldable pub putText : List ℕ → Step Unit
   putText bs = do
     execute row (roomFor (length bs))
-    test (λ s. eqb (here s .character) 1) (pure tt) (execute row (putCharacter 32))
-    putCharacters bs
+    test (λ s. eqb (here s .character) 1) (pure tt) (execute row (putCharacter false 32))
+    putCharacters false bs
 
   -- "Put an integer: the text is whole(value, 11)."
   unfoldable pub puttingInteger : ℤ → Step Value
@@ -292,6 +300,7 @@ module _ (row : List ℕ) where
 -- those that signal no event and so lend no answers
 pub data Plain : Type 0 where
   establishes opens closes resets backspaces : Plain
+  chooses : Bool → Plain
   -- page, line and marker
   views : ℕ → ℕ → List ℕ → Plain
   -- page and line
@@ -316,14 +325,15 @@ unfoldable pub plainWork : Plain → Step Value
 plainWork establishes = establishing
 plainWork opens = opening
 plainWork closes = closing
+plainWork (chooses split) = choosing split
 plainWork resets = resetting
 plainWork backspaces = backspacing
 plainWork (views p l marker) = viewing p l marker
 plainWork (viewNumbers p l) = viewNumber p l
 
 unfoldable pub askingWork : List ℕ → Asking → Step Value
-askingWork row (putsCharacter b) = puttingString row (b ∷ [])
-askingWork row (putsString bs) = puttingString row bs
+askingWork row (putsCharacter b) = puttingCharacters row false (b ∷ [])
+askingWork row (putsString bs) = puttingCharacters row true bs
 askingWork row (putsInteger v) = puttingInteger row v
 askingWork row getsCharacter = gettingCharacter row
 askingWork row (getsString terminators buffer) = gettingString row terminators (length buffer)

@@ -12,7 +12,7 @@ use Rattle.rules.specs.Book.{choose, before, within, inBounds, nextLine,
 use Rattle.rules.specs.Step.{Ending, Step, _>>=_, _>>_, pure, halt, refuse, refuseAt, refusal, stopped, attempt, look, changeRun, branch, test, need, fileEnded, pageEnded, lineEnded, onEndPage, onEndLine, again, goTo, goToEnd, pass, signal, moodOn, backspace, reset, characterHere, store, endLine, endPage}
 
 -- A step that may signal an event. A first Bool says whether the call is reading or writing; a second, whether the step belongs to
--- a string, whose logical end and line end answered 0 are stops.
+-- a string: got, its logical end and line end answered 0 are stops; put, its line end answered 0 follows the record's choice.
 pub data Action : Type 0 where
   goodFile goodPage goodLine : Bool → Bool → Action
   atPageEnd : Bool → Action
@@ -21,7 +21,7 @@ pub data Action : Type 0 where
   setTo : Position → Action
   perform : Mending → Action
   answered : Bool → Mending → Action
-  putCharacter : ℕ → Action
+  putCharacter : Bool → ℕ → Action
   roomFor : ℕ → Action
   passBlanks : Action
   moreDigits : ℕ → Action
@@ -39,7 +39,7 @@ Gives (newpage r) = Unit {0}
 Gives (setTo x) = Unit {0}
 Gives (perform m) = Unit {0}
 Gives (answered r m) = Unit {0}
-Gives (putCharacter b) = Unit {0}
+Gives (putCharacter w b) = Unit {0}
 Gives (roomFor w) = Unit {0}
 Gives passBlanks = Unit {0}
 Gives (moreDigits v) = ℕ
@@ -111,15 +111,20 @@ module _ (row : List ℕ) (go : (action : Action) → Step (Gives action)) where
   unfoldable pub atPageEndBody : Bool → Step Unit
   atPageEndBody reading = signals pageEnd reading (go (newpage reading))
 
-  -- "Good line: good page, then signal line end while c exceeds the line length. Default: newline." In a string "line end answered 0
-  -- is stop 2, with no newline".
+  -- "Good line: good page, then signal line end while c exceeds the line length. Default: newline." In a string that is got "line end
+  -- answered 0 is stop 2, with no newline"; in one that is put it is as the record chooses.
   unfoldable pub goodLineBody : Bool → Bool → Step Unit
   goodLineBody reading string = do
-    go (goodPage reading string)
+    go (goodPage reading (reading && string))
     signalWhile lineEnded (go (atLineEnd reading string)) (go (goodLine reading string))
 
+  -- "The default at line end during put of a string becomes a refusal": 16, "string does not fit", unless the record has "the Report's split"
+  -- (document 02, C-14)
+  unfoldable pub stringEnd : Bool → Step Unit
+  stringEnd reading = branch reading (halt (stopped 2)) (test (λ s. s .run .file .split) (go (newline reading)) (refuseAt lineEnd 16))
+
   unfoldable pub atLineEndBody : Bool → Bool → Step Unit
-  atLineEndBody reading string = signals lineEnd reading (branch string (halt (stopped 2)) (go (newline reading)))
+  atLineEndBody reading string = signals lineEnd reading (branch string (stringEnd reading) (go (newline reading)))
 
   -- "Newline: good page. On the logical end's line the position first moves to that end; reading starts newline again; writing cuts
   -- the line there if compress, else fills it with blanks, and position and end become (p, l+1, 1). On another line only the position
@@ -190,13 +195,14 @@ module _ (row : List ℕ) (go : (action : Action) → Step (Gives action)) where
         (refuseAt Event.character 8)
 
   -- "Put a character: good line; a byte outside 32 to 126 signals character, suggesting a blank (default refusal 8; else the suggestion
-  -- is tried the same way from the start). Store it, c+1. .."
-  unfoldable pub putCharacterBody : ℕ → Step Unit
-  putCharacterBody b = do
-    go (goodLine false false)
+  -- is tried the same way from the start). Store it, c+1. .." A character of a string that is put follows the choice at its line end; any
+  -- other keeps the newline.
+  unfoldable pub putCharacterBody : Bool → ℕ → Step Unit
+  putCharacterBody string b = do
+    go (goodLine false string)
     branch (printable b) (store b) (do
       c ← characterEvent false 32
-      go (putCharacter c))
+      go (putCharacter string c))
 
   -- "Repeat: good line; line length below 11, refusal 10; if c + 11 (c + 12 when c is not 1) exceeds line length + 1, signal line end,
   -- default newline, and repeat." For a text of w characters.
@@ -263,7 +269,7 @@ module _ (row : List ℕ) (go : (action : Action) → Step (Gives action)) where
   body (setTo x) = setToBody x
   body (perform m) = performBody m
   body (answered r m) = answeredBody r m
-  body (putCharacter b) = putCharacterBody b
+  body (putCharacter w b) = putCharacterBody w b
   body (roomFor w) = roomForBody w
   body passBlanks = passBlanksBody
   body (moreDigits v) = moreDigitsBody v
@@ -298,7 +304,7 @@ stage (goodLine r w) = 7
 stage (setTo x) = 7
 stage (perform m) = 8
 stage (answered r m) = 9
-stage (putCharacter b) = 10
+stage (putCharacter w b) = 10
 stage (roomFor w) = 10
 stage passBlanks = 10
 stage (moreDigits v) = 10

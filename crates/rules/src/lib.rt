@@ -27,7 +27,8 @@ pub struct Rights {
     pub compress: bool,
 }
 
-// The file record. `reading` is document 01's read mood, `writing` its write mood. The flags stand together at its end, so that the
+// The file record. `reading` is document 01's read mood, `writing` its write mood. `split` is the choice of document 02's C-14: whether a
+// string that does not fit on its line is split there, as the Report has it, or refused. The flags stand together at its end, so that the
 // numbers before them are copied as whole words.
 #[repr(C)]
 pub struct File {
@@ -36,6 +37,7 @@ pub struct File {
     pub opened: bool,
     pub reading: bool,
     pub writing: bool,
+    pub split: bool,
     pub rights: Rights,
 }
 

@@ -5,6 +5,7 @@ use rules::Position;
 use rules::Run;
 use rules::Status;
 ghost use mathlib.Core.Path.{_≡_};
+ghost use mathlib.Core.Bool.{_&&_};
 ghost use Prim.Native.Nat.{_<_, _^_};
 ghost use Rattle.rules.specs.Book.{place, movedTo, bothMovedTo, inMood, nextWord, signalledBy, kindOf, pageOf, lineOf, characterOf, placeOf, mendingOf, suggested};
 ghost use Rattle.rules.specs.Step.{going, eventAs, doneBy, refusedBy, refusedAt, stoppedBy, statusBy};
@@ -101,6 +102,13 @@ pub fn stopped(run: Run, stop: u8) -> Outcome
             event: Event::None,
         },
     }
+}
+
+// Whether a step belongs to a string that is got: its ends are stops.
+pub fn stops(reading: bool, string: bool) -> bool
+    ensures { λ r. ⌜ r ≡ (reading && string) ⌝ }
+{
+    if reading { string } else { false }
 }
 
 // The event that good file signals.

@@ -50,6 +50,7 @@ pub fn first_side() -> Side {
         opened: false,
         reading: false,
         writing: false,
+        split: false,
         position: one,
         shape: shape,
         rights: rights,
@@ -92,7 +93,7 @@ pub fn bad_line(scene: Scene) -> Played {
 
 // ---- commands
 
-// The calls that are one word: 1 to 10; dump is 31.
+// The calls that are one word: 1 to 10, split 32 and fit 33; dump is 31.
 pub fn short_command(name: &[u8]) -> u8 {
     if check::same(name, b"establish") {
         return 1;
@@ -123,6 +124,12 @@ pub fn short_command(name: &[u8]) -> u8 {
     }
     if check::same(name, b"newpage") {
         return 10;
+    }
+    if check::same(name, b"split") {
+        return 32;
+    }
+    if check::same(name, b"fit") {
+        return 33;
     }
     if check::same(name, b"dump") { 31 } else { 0 }
 }
@@ -191,6 +198,11 @@ pub fn scene_command(name: &[u8]) -> u8 {
     if check::same(name, b"swap") { 30 } else { 0 }
 }
 
+// Whether a command sets the scene.
+pub fn sets_scene(code: u8) -> bool {
+    if code < 20 { false } else { code <= 30 }
+}
+
 // A command's number; 0 for none.
 pub fn command(name: &[u8]) -> u8 {
     let short = short_command(name);
@@ -234,6 +246,14 @@ pub fn words_of(code: u8) -> usize {
         return 2;
     }
     if code <= 29 { 3 } else { 1 }
+}
+
+// Whether a command's line has so many words: that of record may have one more, the choice.
+pub fn words_fit(code: u8, count: usize) -> bool {
+    if count == words_of(code) {
+        return true;
+    }
+    if code == 23 { count == 8 } else { false }
 }
 
 // ---- arguments
@@ -584,14 +604,29 @@ pub fn set_rights(scene: Scene, word: &[u8]) -> Played {
     scene_set(x)
 }
 
-// Opened, the moods and the position.
+// The choice of a record's line: its seventh number, or the one that the record has.
+pub fn read_choice(file: File, line: &[u8]) -> Decimal {
+    if console::word_count(line) == 8 {
+        return console::read_decimal(console::word(line, 7), 1);
+    }
+    Decimal {
+        good: true,
+        value: if file.split { 1 } else { 0 },
+    }
+}
+
+// Opened, the moods and the position, and the choice where the line has it.
 pub fn set_record(scene: Scene, line: &[u8]) -> Played {
+    let file = scene.first.file;
     let flags = three_numbers(line, 1, 1, 1, 1);
     let at = three_numbers(line, 4, 65535, 65535, 65535);
-    let good = if flags.good { at.good } else { false };
+    let choice = read_choice(file, line);
+    let numbers = if flags.good { at.good } else { false };
+    let good = if numbers { choice.good } else { false };
     if !good {
         return bad_line(scene);
     }
+    let split = choice.value == 1;
     let opened = flags.a == 1;
     let reading = flags.b == 1;
     let writing = flags.c == 1;
@@ -599,6 +634,7 @@ pub fn set_record(scene: Scene, line: &[u8]) -> Played {
     s.first.file.opened = opened;
     s.first.file.reading = reading;
     s.first.file.writing = writing;
+    s.first.file.split = split;
     s.first.file.position.page = at.a;
     s.first.file.position.line = at.b;
     s.first.file.position.character = at.c;

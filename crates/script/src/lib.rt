@@ -10,7 +10,7 @@ ghost use Prim.Native.Nat.{_≤_};
 
 // ---- calls
 
-// Establish, open, close, reset and backspace.
+// Establish, open, close, the choice, reset and backspace.
 pub fn call_plain(
     code: u8,
     file: File,
@@ -30,6 +30,12 @@ pub fn call_plain(
     }
     if code == 4 {
         return plain::reset(file, end, text, lines, pages);
+    }
+    if code == 32 {
+        return plain::choose(file, end, true, text, lines, pages);
+    }
+    if code == 33 {
+        return plain::choose(file, end, false, text, lines, pages);
     }
     plain::backspace(file, end, text, lines, pages)
 }
@@ -115,7 +121,7 @@ pub fn call_get(
     gets::get_string(file, end, terminators, output, text, lines, pages, row)
 }
 
-// Any call but view and whole: 5 and less are plain, 6, 7 and 15 are gets, 11 to 13 puts, the others layout.
+// Any call but view and whole: 5 and less, 32 and 33 are plain, 6, 7 and 15 are gets, 11 to 13 puts, the others layout.
 pub fn make_call(
     code: u8,
     file: File,
@@ -142,6 +148,9 @@ pub fn make_call(
     }
     if code == 15 {
         return call_get(code, file, end, bytes, output, text, lines, pages, row);
+    }
+    if 31 < code {
+        return call_plain(code, file, end, text, lines, pages);
     }
     call_layout(code, file, end, given, text, lines, pages, row)
 }
@@ -519,7 +528,7 @@ pub fn play_known(
     if code == 31 {
         return play_dump(scene, text, lines, pages, out);
     }
-    if 19 < code {
+    if scenes::sets_scene(code) {
         return scenes::set_scene(code, scene, line, text, lines, pages);
     }
     play_asked(
@@ -561,7 +570,7 @@ pub fn play_line(
     if code == 0 {
         return scenes::bad_line(scene);
     }
-    if console::word_count(line) != scenes::words_of(code) {
+    if !scenes::words_fit(code, console::word_count(line)) {
         return scenes::bad_line(scene);
     }
     play_known(

@@ -79,7 +79,7 @@ pub fn push_event(out: &mut [u8], n: usize, event: Event, at: Position) -> usize
     }
 }
 
-// The record's flags and position, and the logical end, each after a bar.
+// The record's flags, position and choice, and the logical end, each after a bar.
 pub fn push_record(out: &mut [u8], n: usize, file: File, end: Position) -> usize {
     let position = file.position;
     let bar = console::push_all(out, n, b" |");
@@ -87,7 +87,8 @@ pub fn push_record(out: &mut [u8], n: usize, file: File, end: Position) -> usize
     let reading = push_flag(out, opened, file.reading);
     let writing = push_flag(out, reading, file.writing);
     let at = push_position(out, writing, position);
-    let second = console::push_all(out, at, b" |");
+    let split = push_flag(out, at, file.split);
+    let second = console::push_all(out, split, b" |");
     push_position(out, second, end)
 }
 

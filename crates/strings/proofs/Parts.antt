@@ -56,13 +56,13 @@ stops-at a {r} {o} {t} {l} {p} h = ap (λ (x : Outcome). outcomeGiving a x t l p
 
 -- ---- put
 
-module _ (row bytes : List ℕ) (i : ℕ) (s : State) (t : List ℕ) (rd : Ready row (putCharacter 0) s) (h : i < length bytes) where
-  pub put-one : {b : ℕ} → b ≡ getD bytes i 0 → (o : Outcome) (t′ l′ p′ : List ℕ) → outcome o t′ l′ p′ ≡ execute row (putCharacter b) s t → Put row bytes i s t o 1 t′ l′ p′
+module _ (row bytes : List ℕ) (i : ℕ) (s : State) (t : List ℕ) (rd : Ready row (putCharacter true 0) s) (h : i < length bytes) where
+  pub put-one : {b : ℕ} → b ≡ getD bytes i 0 → (o : Outcome) (t′ l′ p′ : List ℕ) → outcome o t′ l′ p′ ≡ execute row (putCharacter true b) s t → Put row bytes i s t o 1 t′ l′ p′
   put-one e o t′ l′ p′ c = record {
     same = split (going (o .status))
-        (λ g. left-one row bytes i s t rd h e (reached o c g) ∙ sym (pick-true _ _ g))
-        (λ g. left-ends row bytes i s t rd h e (halted o c g) ∙ sym (pick-false _ _ g));
-    ready = λ g. one-left-ready row bytes i s t rd h e (reached o c g);
+        (λ g. left-one row bytes true i s t rd h e (reached o c g) ∙ sym (pick-true _ _ g))
+        (λ g. left-ends row bytes true i s t rd h e (halted o c g) ∙ sym (pick-false _ _ g));
+    ready = λ g. one-left-ready row bytes true i s t rd h e (reached o c g);
     some = omega arith;
     within = omega arith;
   }
@@ -71,7 +71,7 @@ module _ (row bytes : List ℕ) (i : ℕ) (s : State) (t : List ℕ) (rd : Ready
       → {at : ℕ} → at ≡ characterIndex (shapeOf s) (here s) → {y : Run} {t′ l′ p′ : List ℕ} {o : Outcome} → state y l′ p′ ≡ storedBy n s → t′ ≡ sets t at (take n (drop i bytes)) → o ≡ doneBy y → Put row bytes i s t o n t′ l′ p′
   put-more {n = n} r a b k p z e {t′ = t′} {l′ = l′} {p′ = p′} hy ht ho =
       let m : 0 < n = some-of n z in
-      let x = left-run row bytes i s t rd m
+      let x = left-run row bytes true i s t rd m
       (record { there = omega (arith, b, k); good = good-facts false s (r .good (omega (arith, a, k, m))); room = omega (arith, r .line, a, k); plain = p })
       hy (ht ∙ ap (λ (j : ℕ). sets t j (take n (drop i bytes))) e) in
       subst (λ (o : Outcome). Put row bytes i s t o n t′ l′ p′) (sym ho)
@@ -79,10 +79,10 @@ module _ (row bytes : List ℕ) (i : ℕ) (s : State) (t : List ℕ) (rd : Ready
 
 -- the two ways on from a part
 module _ {row bytes : List ℕ} {i : ℕ} {s : State} {t : List ℕ} {o : Outcome} {n : ℕ} {t′ l′ p′ : List ℕ} (x : Put row bytes i s t o n t′ l′ p′) where
-  pub put-goes : going (o .status) ≡ true → putCharacters row (drop i bytes) s t ≡ putCharacters row (drop (i + n) bytes) (state (o .run) l′ p′) t′
+  pub put-goes : going (o .status) ≡ true → putCharacters row true (drop i bytes) s t ≡ putCharacters row true (drop (i + n) bytes) (state (o .run) l′ p′) t′
   put-goes g = x .same ∙ pick-true _ _ g
 
-  pub put-halts : going (o .status) ≡ false → putCharacters row (drop i bytes) s t ≡ ends (endingBy o) (state (o .run) l′ p′) t′
+  pub put-halts : going (o .status) ≡ false → putCharacters row true (drop i bytes) s t ≡ ends (endingBy o) (state (o .run) l′ p′) t′
   put-halts g = x .same ∙ pick-false _ _ g
 
 -- ---- get

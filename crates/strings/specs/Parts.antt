@@ -34,8 +34,8 @@ pub record Takable (terminators : List ℕ) (s : State) (t : List ℕ) (limit n 
 
 -- of a string of which i characters are put, n more are put, or its put ends
 pub record Put (row bytes : List ℕ) (i : ℕ) (s : State) (t : List ℕ) (o : Outcome) (n : ℕ) (t′ l′ p′ : List ℕ) : Type 0 where
-  pub same : putCharacters row (drop i bytes) s t ≡ choose (going (o .status)) (putCharacters row (drop (i + n) bytes) (state (o .run) l′ p′) t′) (ends (endingBy o) (state (o .run) l′ p′) t′)
-  pub ready : going (o .status) ≡ true → Ready row (putCharacter 0) (state (o .run) l′ p′)
+  pub same : putCharacters row true (drop i bytes) s t ≡ choose (going (o .status)) (putCharacters row true (drop (i + n) bytes) (state (o .run) l′ p′) t′) (ends (endingBy o) (state (o .run) l′ p′) t′)
+  pub ready : going (o .status) ≡ true → Ready row (putCharacter true 0) (state (o .run) l′ p′)
   pub some : 0 < n
   pub within : i + n ≤ length bytes
 

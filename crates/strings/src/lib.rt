@@ -116,9 +116,9 @@ pub fn put_string(
     pages: &mut [u8],
     row: &[u32],
 ) -> Outcome
-    requires { ⌜ Ready (now row) (Action.putCharacter 0) (state run (now lines) (now pages)) ⌝ }
+    requires { ⌜ Ready (now row) (Action.putCharacter true 0) (state run (now lines) (now pages)) ⌝ }
     requires { ⌜ T (rowFits (now row)) ⌝ }
-    ensures { λ r. ⌜ outcome r (now (text .exit)) (now (lines .exit)) (now (pages .exit)) ≡ putCharacters (now (row .entry)) (now (bytes .entry)) (state run (now (lines .entry)) (now (pages .entry))) (now (text .entry)) ⌝ }
+    ensures { λ r. ⌜ outcome r (now (text .exit)) (now (lines .exit)) (now (pages .exit)) ≡ putCharacters (now (row .entry)) true (now (bytes .entry)) (state run (now (lines .entry)) (now (pages .entry))) (now (text .entry)) ⌝ }
 {
     let mut here = run;
     let mut i = 0;
@@ -126,7 +126,7 @@ pub fn put_string(
         let n = run_length(here, bytes, i, text, lines, pages);
         if n == 0 {
             let b = bytes[i];
-            let one = lines::try_character(here, b, text, lines, pages, row);
+            let one = lines::try_character(here, true, b, text, lines, pages, row);
             if !running::goes_on(one) {
                 return one;
             }

@@ -10,7 +10,7 @@ use whole::Wrote;
 ghost use mathlib.Core.Path.{_≡_};
 ghost use mathlib.Core.List.{[]};
 ghost use Rattle.rules.specs.Whole.{whole};
-ghost use Rattle.rules.specs.Calls.{book, call, plain, asking, establishes, opens, closes, resets, backspaces, views, viewNumbers, putsCharacter, putsString, putsInteger, getsCharacter, getsString, getsInteger, spaces, newlines, newpages, sets, setsCharacterNumber};
+ghost use Rattle.rules.specs.Calls.{book, call, plain, asking, establishes, opens, closes, chooses, resets, backspaces, views, viewNumbers, putsCharacter, putsString, putsInteger, getsCharacter, getsString, getsInteger, spaces, newlines, newpages, sets, setsCharacterNumber};
 ghost use Rattle.views.specs.Spans.{viewAfter, Viewed};
 ghost use Rattle.numbers.specs.Numbers.{afterNumbers};
 ghost use Rattle.differences.specs.Compare.{answer, compared, differ, differenceCount};
@@ -59,6 +59,23 @@ pub extern "C" fn transput_close(
     ensures { λ r. ⌜ afterNumbers (now (file .exit)) r [] (now (text .entry)) (now (lines .entry)) (now (pages .entry)) ≡ call (plain closes) (now (file .entry)) (book (now (text .entry)) (now (lines .entry)) (now (pages .entry)) end) ⌝ }
 {
     let left = numbers::close(*file, end, text, lines, pages);
+    *file = left.file;
+    left.result
+}
+
+// Chooses what becomes of a string that does not fit on its line: the Report's split, or refusal 16.
+#[no_mangle]
+pub extern "C" fn transput_choose(
+    file: &mut File,
+    end: Position,
+    split: bool,
+    text: &[u8],
+    lines: &[u8],
+    pages: &[u8],
+) -> CallResult
+    ensures { λ r. ⌜ afterNumbers (now (file .exit)) r [] (now (text .entry)) (now (lines .entry)) (now (pages .entry)) ≡ call (plain (chooses split)) (now (file .entry)) (book (now (text .entry)) (now (lines .entry)) (now (pages .entry)) end) ⌝ }
+{
+    let left = numbers::choose(*file, end, split, text, lines, pages);
     *file = left.file;
     left.result
 }

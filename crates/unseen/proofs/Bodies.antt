@@ -8,7 +8,7 @@ use Rattle.rules.specs.declared.Position.{Position}
 use Rattle.rules.specs.declared.Rights.{Rights}
 use Rattle.rules.specs.Book.{before, within, inBounds, Lengths, State, here, endOf, shapeOf, rightsOf, lineHere, Event, logicalEnd, pageEnd, lineEnd, Mending, suggested}
 use Rattle.rules.specs.Step.{Ending, Step, pure, stopped, fileEnded, pageEnded, lineEnded, onEndPage, onEndLine, pass}
-use Rattle.rules.specs.Steps.{Action, Gives, goodFile, goodPage, goodLine, atPageEnd, atLineEnd, newline, newpage, setTo, perform, answered, putCharacter, roomFor, passBlanks, moreDigits, setCharacterNumber, printable, digit, fitsHere, backspaces, isStop, fileEnd, fileEndNumber, signals, signalWhile, goodFileBody, goodPageBody, atPageEndBody, goodLineBody, atLineEndBody, newlineBody, newpageBody, setToBody, performBody, answeredBody, characterEvent, putCharacterBody, roomForBody, passBlanksBody, moreDigitsBody, spaceStep, setCharacterNumberBody, body, measure, boundMet, bounded, execute}
+use Rattle.rules.specs.Steps.{stringEnd, Action, Gives, goodFile, goodPage, goodLine, atPageEnd, atLineEnd, newline, newpage, setTo, perform, answered, putCharacter, roomFor, passBlanks, moreDigits, setCharacterNumber, printable, digit, fitsHere, backspaces, isStop, fileEnd, fileEndNumber, signals, signalWhile, goodFileBody, goodPageBody, atPageEndBody, goodLineBody, atLineEndBody, newlineBody, newpageBody, setToBody, performBody, answeredBody, characterEvent, putCharacterBody, roomForBody, passBlanksBody, moreDigitsBody, spaceStep, setCharacterNumberBody, body, measure, boundMet, bounded, execute}
 use Rattle.unseen.proofs.Sim.{Sim, Any, Free, Safe, sim-pure, sim-halt, sim-refuse, sim-bind, sim-test, sim-branch, sim-upon, sim-look, sim-weak, sim-attempt, from, given}
 use Rattle.unseen.proofs.Moves.{Right, AtEnd, FileOk, PageOk, LineOk, sim-again, sim-signal, sim-need, sim-moodOn, sim-goToEnd, sim-lineEnd, sim-pageEnd, sim-backspace, sim-reset, sim-pass, sim-nextLine, sim-nextPage, sim-goTo}
 use Rattle.unseen.proofs.Texts.{ok-before, sim-character, sim-store, sim-endLine, sim-endPage}
@@ -25,7 +25,7 @@ After (newpage r) a s = Unit {0}
 After (setTo x) a s = Unit {0}
 After (perform m) a s = Unit {0}
 After (answered r m) a s = Unit {0}
-After (putCharacter b) a s = Unit {0}
+After (putCharacter w b) a s = Unit {0}
 After (roomFor w) a s = Unit {0}
 After passBlanks a s = LineOk true s
 After (moreDigits v) a s = Unit {0}
@@ -43,7 +43,7 @@ Allowed R (newpage r) = Right R r
 Allowed R (setTo x) = Unit {0}
 Allowed R (perform m) = Unit {0}
 Allowed R (answered r m) = Right R r
-Allowed R (putCharacter b) = Right R false
+Allowed R (putCharacter w b) = Right R false
 Allowed R (roomFor w) = Right R false
 Allowed R passBlanks = Right R true
 Allowed R (moreDigits v) = Right R true
@@ -87,12 +87,14 @@ module _ {R : Rights} {L : Lengths} where
 
     sim-goodLine : (r w : Bool) → Right R r → Sim R L Any (goodLineBody row go r w) (λ _. LineOk r)
     unfolding goodLineBody
-    sim-goodLine r w a = sim-bind (h (goodPage r w) a) λ _.
+    sim-goodLine r w a = sim-bind (h (goodPage r (r && w)) a) λ _.
         sim-while lineEnded (h (atLineEnd r w) a) (h (goodLine r w) a) (sim-pure (λ _. LineOk r) tt)
 
     sim-atLineEnd : (r w : Bool) → Right R r → Safe R L (atLineEndBody row go r w)
-    unfolding atLineEndBody
-    sim-atLineEnd r w a = sim-signals lineEnd r a (sim-branch w (λ _. sim-halt (stopped 2)) (λ _. h (newline r) a))
+    unfolding atLineEndBody stringEnd
+    sim-atLineEnd r w a = sim-signals lineEnd r a (sim-branch w
+        (λ _. sim-branch r (λ _. sim-halt (stopped 2)) (λ _. sim-test (λ s. s .run .file .split) (from (h (newline r) a)) (from (sim-refuse lineEnd 16))))
+        (λ _. h (newline r) a))
 
     sim-newline : (r : Bool) → Right R r → Safe R L (newlineBody row go r)
     unfolding newlineBody
@@ -134,12 +136,12 @@ module _ {R : Rights} {L : Lengths} where
     sim-characterEvent r b a = sim-bind (sim-signal Event.character row) λ w.
         sim-upon Event.character w (sim-refuse Event.character 8) (λ m. sim-bind (h (answered r m) a) λ _. sim-pure Free (suggested m b))
 
-    sim-putCharacter : (b : ℕ) → Right R false → Safe R L (putCharacterBody row go b)
+    sim-putCharacter : (w : Bool) (b : ℕ) → Right R false → Safe R L (putCharacterBody row go w b)
     unfolding putCharacterBody
-    sim-putCharacter b a = sim-bind (h (goodLine false false) a) λ _.
+    sim-putCharacter w b a = sim-bind (h (goodLine false w) a) λ _.
         sim-branch (printable b)
         (λ _. sim-weak (λ s q. q .1) (λ a s q. q) (sim-store b))
-        (λ _. from (sim-bind (sim-characterEvent false 32 a) λ c. h (putCharacter c) a))
+        (λ _. from (sim-bind (sim-characterEvent false 32 a) λ c. h (putCharacter w c) a))
 
     sim-roomFor : (w : ℕ) → Right R false → Safe R L (roomForBody row go w)
     unfolding roomForBody
@@ -187,7 +189,7 @@ module _ {R : Rights} {L : Lengths} where
     sim-body (setTo x) a = sim-setTo x
     sim-body (perform m) a = sim-perform m
     sim-body (answered r m) a = sim-answered r m a
-    sim-body (putCharacter b) a = sim-putCharacter b a
+    sim-body (putCharacter w b) a = sim-putCharacter w b a
     sim-body (roomFor w) a = sim-roomFor w a
     sim-body passBlanks a = sim-passBlanks a
     sim-body (moreDigits v) a = sim-moreDigits v a

@@ -16,11 +16,11 @@ use Rattle.rules.specs.declared.Shape.{Shape}
 use Rattle.rules.specs.declared.Rights.{Rights}
 use Rattle.rules.specs.declared.File.{File}
 use Rattle.rules.specs.declared.Run.{Run}
-use Rattle.rules.specs.Book.{choose, place, before, within, inBounds, Lengths, lengths, pageLength, lineIndex, lineLength, characterIndex, State, onRun, here, endOf, shapeOf, rightsOf, withFile, fileOpened, rewound, Event, legal, sizesFit, allUpTo, lengthsFit, someRight, shapeFits, bookFits, moodsFit, allFits, rowFits}
+use Rattle.rules.specs.Book.{fileChoosing, choose, place, before, within, inBounds, Lengths, lengths, pageLength, lineIndex, lineLength, characterIndex, State, onRun, here, endOf, shapeOf, rightsOf, withFile, fileOpened, rewound, Event, legal, sizesFit, allUpTo, lengthsFit, someRight, shapeFits, bookFits, moodsFit, allFits, rowFits}
 use Rattle.rules.specs.Step.{Ending, Out, done, ends, Step, _>>=_, andThen, caught, pure, halt, refuse, refusalAt, stopped, attempt, look, change, changeRun, branch, test, need, again, pass, moodOn, backspace, reset, size}
 use Rattle.rules.specs.Steps.{Action, Gives, goodLine, newline, newpage, setTo, putCharacter, roomFor, passBlanks, moreDigits, setCharacterNumber, printable, digit, execute}
 use Rattle.rules.specs.Whole.{wholeText, lowest}
-use Rattle.rules.specs.Calls.{Value, nothing, aCharacter, anInteger, aView, aString, begin, needRow, turnable, turn, putting, getting, established, establishing, opening, closing, resetting, backspacing, shown, shownLength, shownPart, orMarker, viewing, viewNumber, putCharacters, puttingString, putText, puttingInteger, takeCharacter, gettingCharacter, oneOf, stringCharacter, getCharacters, gettingString, firstDigit, withSign, integerGiven, signBefore, takeInteger, gettingInteger, inMoodOn, spacing, newlining, newpaging, settingCharacterNumber, setting, Plain, establishes, opens, closes, resets, backspaces, views, viewNumbers, Asking, putsCharacter, putsString, putsInteger, getsCharacter, getsInteger, spaces, newlines, newpages, getsString, sets, setsCharacterNumber, Call, plain, asking, plainWork, askingWork, work}
+use Rattle.rules.specs.Calls.{choosing, chooses, Value, nothing, aCharacter, anInteger, aView, aString, begin, needRow, turnable, turn, putting, getting, established, establishing, opening, closing, resetting, backspacing, shown, shownLength, shownPart, orMarker, viewing, viewNumber, putCharacters, puttingCharacters, putText, puttingInteger, takeCharacter, gettingCharacter, oneOf, stringCharacter, getCharacters, gettingString, firstDigit, withSign, integerGiven, signBefore, takeInteger, gettingInteger, inMoodOn, spacing, newlining, newpaging, settingCharacterNumber, setting, Plain, establishes, opens, closes, resets, backspaces, views, viewNumbers, Asking, putsCharacter, putsString, putsInteger, getsCharacter, getsInteger, spaces, newlines, newpages, getsString, sets, setsCharacterNumber, Call, plain, asking, plainWork, askingWork, work}
 use Rattle.rules.specs.Alike.{Seen}
 use Rattle.rules.specs.Rewritten.{shrank}
 use Rattle.laws.proofs.Order.{yes, and-l, and-r, not-and, neqb→neq, Lt, by-page, by-line, by-character, Le, le-page, le-line, le-character, before→Lt, Lt→before, nbefore→Le}
@@ -42,7 +42,7 @@ pub record Loosely (f : Lengths) (end : Position) (t t′ : List ℕ) : Type 0 w
 pub data Kept (s : State) (n : ℕ) : Bool → State → ℕ → Type 0 where
   unchanged : {g : Bool} → Kept s n g s n
   worked : {g : Bool} {u : State} {m : ℕ} → Inv (rightsOf s) (s .lengths) u → m ≡ shapeOf u .pages * shapeOf u .lines * shapeOf u .characters → Kept s n g u m
-  reopened : {g : Bool} → T (bookFits n s) → Kept s n g (onRun s (withFile (s .run) (rewound (fileOpened (s .run .file) true)))) n
+  reopened : {g : Bool} → T (bookFits n s) → Kept s n g (onRun s (withFile (s .run) (fileChoosing (rewound (fileOpened (s .run .file) true)) false))) n
   begun : T (shapeFits n s) → T (rightsOf s .put) → Kept s n true (established s) n
 
 pub data LRel {A : Type 0} (g : Bool) (s₀ : State) (n : ℕ) : Out A → Out A → Type 0 where
@@ -212,16 +212,16 @@ module _ {R : Rights} {L : Lengths} where
   sim-getting = sim-bind (right-of true) λ _. sim-turn true
 
   module _ (row : List ℕ) where
-    pub sim-putCharacters : (bs : List ℕ) → Right R false → Safe R L (putCharacters row bs)
+    pub sim-putCharacters : (w : Bool) (bs : List ℕ) → Right R false → Safe R L (putCharacters row w bs)
     unfolding putCharacters
-    sim-putCharacters [] a = sim-pure Free tt
-    sim-putCharacters (b ∷ bs) a = sim-bind (sim-execute row (putCharacter b) a) λ _. sim-putCharacters bs a
+    sim-putCharacters w [] a = sim-pure Free tt
+    sim-putCharacters w (b ∷ bs) a = sim-bind (sim-execute row (putCharacter w b) a) λ _. sim-putCharacters w bs a
 
     sim-putText : (bs : List ℕ) → Right R false → Safe R L (putText row bs)
     unfolding putText
     sim-putText bs a = sim-bind (sim-execute row (roomFor (length bs)) a) λ _.
-        sim-bind (sim-test (λ s. eqb (here s .character) 1) (from (sim-pure Free tt)) (from (sim-execute row (putCharacter 32) a))) λ _.
-        sim-putCharacters bs a
+        sim-bind (sim-test (λ s. eqb (here s .character) 1) (from (sim-pure Free tt)) (from (sim-execute row (putCharacter false 32) a))) λ _.
+        sim-putCharacters false bs a
 
     sim-takeCharacter : Right R true → Sim R L (LineOk true) (takeCharacter row) Free
     unfolding takeCharacter
@@ -277,9 +277,9 @@ unfolding look
 looked-writing {R} r = record { sim = λ s t t′ i q g. both i (rights-by R r (s .run .file .writing) (subst (λ (b : Bool). Moods b (s .run .file .writing) R) (sym (q .1)) (i .moods))) g }
 
 module _ (row : List ℕ) (s : State) where
-  loose-puttingString : (bs : List ℕ) → LooseAt false s (puttingString row bs)
-  unfolding puttingString
-  loose-puttingString bs = loose-begin s (row-then row (sim-bind sim-putting λ _. given (λ a. nothing-after (sim-putCharacters row bs a))))
+  loose-puttingCharacters : (w : Bool) (bs : List ℕ) → LooseAt false s (puttingCharacters row w bs)
+  unfolding puttingCharacters
+  loose-puttingCharacters w bs = loose-begin s (row-then row (sim-bind sim-putting λ _. given (λ a. nothing-after (sim-putCharacters row w bs a))))
 
   loose-puttingInteger : (v : ℤ) → LooseAt false s (puttingInteger row v)
   unfolding puttingInteger
@@ -329,6 +329,10 @@ module _ (row : List ℕ) (s : State) where
 -- ---- calls that take no answers
 
 module _ (s : State) where
+  loose-choosing : (split : Bool) → LooseAt false s (choosing split)
+  unfolding choosing
+  loose-choosing split = loose-begin s (nothing-after (sim-change (λ s. onRun s (withFile (s .run) (fileChoosing (s .run .file) split))) (λ s i q. record { sound = i .sound; lengths = i .lengths; rights = i .rights; some = i .some; moods = i .moods }) (λ s i q. tt) (λ s t t′ i q g. g)))
+
   loose-closing : LooseAt false s closing
   unfolding closing
   loose-closing = loose-begin s (nothing-after (sim-change (λ s. onRun s (withFile (s .run) (fileOpened (s .run .file) false))) (λ s i q. record { sound = i .sound; lengths = i .lengths; rights = i .rights; some = i .some; moods = i .moods }) (λ s i q. tt) (λ s t t′ i q g. g)))
@@ -409,7 +413,7 @@ unfolding _>>=_ change pure established
 established-alike s t t′ q r g = lboth (begun q r) (record { sizes = g .sizes; same = λ h l q x v. absurd (none-before x (v .page .0) (v .line .0) (v .character .0) (before→Lt x (place 1 1 1) (v .ahead))) })
 
 opened-alike : (s : State) (t t′ : List ℕ) → T (bookFits (length t) s) → Loosely (s .lengths) (endOf s) t t′
-    → LRel false s (length t) ((changeRun (λ r. withFile r (rewound (fileOpened (r .file) true))) >>= λ _. pure nothing) s t) ((changeRun (λ r. withFile r (rewound (fileOpened (r .file) true))) >>= λ _. pure nothing) s t′)
+    → LRel false s (length t) ((changeRun (λ r. withFile r (fileChoosing (rewound (fileOpened (r .file) true)) false)) >>= λ _. pure nothing) s t) ((changeRun (λ r. withFile r (fileChoosing (rewound (fileOpened (r .file) true)) false)) >>= λ _. pure nothing) s t′)
 unfolding _>>=_ change pure
 opened-alike s t t′ q g = lboth (reopened q) (record { sizes = g .sizes; same = g .same })
 
@@ -431,6 +435,7 @@ abbrev pub growing : Call → Bool
 growing (plain establishes) = true
 growing (plain opens) = false
 growing (plain closes) = false
+growing (plain (chooses split)) = false
 growing (plain resets) = false
 growing (plain backspaces) = false
 growing (plain (views p l m)) = false
@@ -439,8 +444,8 @@ growing (asking k row) = false
 
 loose-asking : (row : List ℕ) (k : Asking) (s : State) → LooseAt false s (askingWork row k)
 unfolding askingWork
-loose-asking row (putsCharacter b) s = loose-puttingString row s (b ∷ [])
-loose-asking row (putsString bs) s = loose-puttingString row s bs
+loose-asking row (putsCharacter b) s = loose-puttingCharacters row s false (b ∷ [])
+loose-asking row (putsString bs) s = loose-puttingCharacters row s true bs
 loose-asking row (putsInteger v) s = loose-puttingInteger row s v
 loose-asking row getsCharacter s = loose-gettingCharacter row s
 loose-asking row (getsString terminators buffer) s = loose-gettingString row s terminators (length buffer)
@@ -456,6 +461,7 @@ unfolding work plainWork
 loose-work (plain establishes) s = loose-establishing s
 loose-work (plain opens) s = loose-opening s
 loose-work (plain closes) s = loose-closing s
+loose-work (plain (chooses split)) s = loose-choosing s split
 loose-work (plain resets) s = loose-resetting s
 loose-work (plain backspaces) s = loose-backspacing s
 loose-work (plain (views p l m)) s = loose-viewing s p l m

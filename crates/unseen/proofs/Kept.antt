@@ -13,11 +13,11 @@ use Rattle.rules.specs.declared.Position.{Position}
 use Rattle.rules.specs.declared.Shape.{Shape}
 use Rattle.rules.specs.declared.Rights.{Rights}
 use Rattle.rules.specs.declared.File.{File}
-use Rattle.rules.specs.Book.{place, before, within, inBounds, Lengths, State, onRun, here, endOf, shapeOf, rightsOf, withFile, fileOpened, rewound, pageLength, lineLength, legal, sizesFit, allUpTo, lengthsFit, someRight, shapeFits, bookFits, moodsFit, allFits}
+use Rattle.rules.specs.Book.{fileChoosing, place, before, within, inBounds, Lengths, State, onRun, here, endOf, shapeOf, rightsOf, withFile, fileOpened, rewound, pageLength, lineLength, legal, sizesFit, allUpTo, lengthsFit, someRight, shapeFits, bookFits, moodsFit, allFits}
 use Rattle.rules.specs.Step.{Out, done, ends}
 use Rattle.rules.specs.Steps.{rank}
 use Rattle.rules.specs.Ready.{InBounds, Rules, Valid}
-use Rattle.rules.specs.Calls.{Value, nothing, aCharacter, anInteger, aView, aString, established, Plain, establishes, opens, closes, resets, backspaces, views, viewNumbers, Call, plain, asking, work, bufferOf, Book, After, enter, leave, call}
+use Rattle.rules.specs.Calls.{Value, nothing, aCharacter, anInteger, aView, aString, established, Plain, establishes, opens, closes, chooses, resets, backspaces, views, viewNumbers, Call, plain, asking, work, bufferOf, Book, After, enter, leave, call}
 use Rattle.rules.specs.Alike.{lengthsOf}
 use Rattle.rules.specs.Rewritten.{Shrunk, Became, shrank, LengthsKept}
 use Rattle.laws.proofs.Order.{and-l, and-r, or-r, split, yes, is-yes}
@@ -109,7 +109,7 @@ worked-facts {R} n s i e = record {
   moods = subst (λ (r : Rights). Moods (s .run .file .reading) (s .run .file .writing) r) (sym (i .rights)) (i .moods);
 }
 
-reopened-facts : (n : ℕ) (s : State) → T (bookFits n s) → Facts n (onRun s (withFile (s .run) (rewound (fileOpened (s .run .file) true))))
+reopened-facts : (n : ℕ) (s : State) → T (bookFits n s) → Facts n (onRun s (withFile (s .run) (fileChoosing (rewound (fileOpened (s .run .file) true)) false)))
 unfolding bookFits shapeFits lengthsFit someRight
 reopened-facts n s q =
     let h = shapeOf s in let f = s .lengths in
@@ -202,6 +202,7 @@ not-growing : (k : Call) → k ≢ plain establishes → growing k ≡ false
 not-growing (plain establishes) n = absurd (n refl)
 not-growing (plain opens) n = refl
 not-growing (plain closes) n = refl
+not-growing (plain (chooses split)) n = refl
 not-growing (plain resets) n = refl
 not-growing (plain backspaces) n = refl
 not-growing (plain (views p l m)) n = refl

@@ -5,7 +5,7 @@ use mathlib.Core.Path.{_≡_, refl, sym, ap, subst, _∙_}
 use mathlib.Core.Logic.{inl, inr}
 use Prim.Native.Nat.{ℕ, _*_, _≤_}
 use native.Mathlib.Omega.{arith}
-use mathlib.Core.Bool.{true, false}
+use mathlib.Core.Bool.{Bool, true, false}
 use mathlib.Core.List.{List, [], _∷_}
 use lib.ListN.{length, getD, set, replicate, length-set}
 use lib.Dec.{T}
@@ -17,7 +17,7 @@ use Rattle.rules.specs.Book.{place, before, Lengths, lengths, State, onRun, rig
 use Rattle.rules.specs.Step.{Out, Step, _>>=_, andThen, pure, fileEnded, restoredFrom}
 use Rattle.rules.specs.Steps.{putCharacter, printable}
 use Rattle.rules.specs.Ready.{Ready}
-use Rattle.rules.specs.Calls.{Value, nothing, putting, turnable, putCharacters, puttingString, Call, askingWork, work, bufferOf, Book, enter, leave, call, run}
+use Rattle.rules.specs.Calls.{Value, nothing, putting, turnable, putCharacters, puttingCharacters, Call, askingWork, work, bufferOf, Book, enter, leave, call, run}
 use Rattle.rules.specs.Alike.{lengthsOf}
 use Rattle.rules.specs.Rewritten.{AtStart, FirstNight, LaterNight, Begins, character, string, AsOnFirstNight}
 use Rattle.laws.specs.Runs.{storedBy}
@@ -62,16 +62,16 @@ module _ (f : File) (b : Book) (m : AtStart f b) where
   unfolding turnable
   turns = rw (m .without-set, m .not-reading)
 
-  module _ (c : ℕ) (cs row : List ℕ) (p : printable c ≡ true) (r : rowFits row ≡ true) where
-    ready : Ready row (putCharacter c) writing
-    ready = ready-any row (putCharacter c) writing (fits .valid) (row-short row (is-yes _ r)) (omega arith) (omega arith)
+  module _ (w : Bool) (c : ℕ) (cs row : List ℕ) (p : printable c ≡ true) (r : rowFits row ≡ true) where
+    ready : Ready row (putCharacter w c) writing
+    ready = ready-any row (putCharacter w c) writing (fits .valid) (row-short row (is-yes _ r)) (omega arith) (omega arith)
 
-    begins : (putCharacters row (c ∷ cs) >>= λ _. pure nothing) writing (b .text) ≡ (putCharacters row cs >>= λ _. pure nothing) (storedBy 1 writing) (set (b .text) (characterIndex (f .shape) (f .position)) c)
+    begins : (putCharacters row w (c ∷ cs) >>= λ _. pure nothing) writing (b .text) ≡ (putCharacters row w cs >>= λ _. pure nothing) (storedBy 1 writing) (set (b .text) (characterIndex (f .shape) (f .position)) c)
     unfolding _>>=_ putCharacters
-    begins = ap (λ (o : Out (Unit {0})). andThen (λ _. pure nothing) (andThen (λ _. putCharacters row cs) o)) (one-stored row c writing (b .text) ready good p)
+    begins = ap (λ (o : Out (Unit {0})). andThen (λ _. pure nothing) (andThen (λ _. putCharacters row w cs) o)) (one-stored row w c writing (b .text) ready good p)
 
-    works : puttingString row (c ∷ cs) (enter f b) (b .text) ≡ (putCharacters row cs >>= λ _. pure nothing) (storedBy 1 writing) (set (b .text) (characterIndex (f .shape) (f .position)) c)
-    unfolding puttingString
+    works : puttingCharacters row w (c ∷ cs) (enter f b) (b .text) ≡ (putCharacters row w cs >>= λ _. pure nothing) (storedBy 1 writing) (set (b .text) (characterIndex (f .shape) (f .position)) c)
+    unfolding puttingCharacters
     works = begun _ (enter f b) (b .text) (m .opened) (m .fits) ∙ need-true 2 _ _ (enter f b) (b .text) r
         ∙ bind-done putting _ (enter f b) (b .text) (turned (λ s. rightsOf s .put) false (enter f b) (b .text) (m .may-put) turns) ∙ begins
 
@@ -117,9 +117,9 @@ first-alike h g t t′ c full e = record {
   ];
 }
 
-module _ (f : File) (b b′ : Book) (n : FirstNight f b) (n′ : LaterNight f b′) (c : ℕ) (cs row : List ℕ) (p : printable c ≡ true) (r : rowFits row ≡ true) where
+module _ (f : File) (b b′ : Book) (n : FirstNight f b) (n′ : LaterNight f b′) (w : Bool) (c : ℕ) (cs row : List ℕ) (p : printable c ≡ true) (r : rowFits row ≡ true) where
   abbrev rest : Step Value
-  rest = putCharacters row cs >>= λ _. pure nothing
+  rest = putCharacters row w cs >>= λ _. pure nothing
 
   -- the text with its first character stored
   abbrev begunWith : Book → List ℕ
@@ -140,28 +140,28 @@ module _ (f : File) (b b′ : Book) (n : FirstNight f b) (n′ : LaterNight f b�
   same-size = fits f b (n .start) .sizes .text ∙ sym (fits f b′ (n′ .start) .sizes .text)
 
   rest-alike : Rel (f .rights) (lengthsOf b′) Free (rest (fresh f) (begunWith b)) (rest (fresh f) (begunWith b′))
-  rest-alike = nothing-after (sim-putCharacters row cs may) .sim (fresh f) (begunWith b) (begunWith b′) fresh-inv tt
+  rest-alike = nothing-after (sim-putCharacters row w cs may) .sim (fresh f) (begunWith b) (begunWith b′) fresh-inv tt
       (first-alike (f .shape) (fresh f .lengths) (b .text) (b′ .text) c (fits f b (n .start) .sizes .text) same-size)
 
   at-first : (x : Book) → set (x .text) (characterIndex (f .shape) (f .position)) c ≡ begunWith x
   at-first x = ap (λ (y : Position). set (x .text) (characterIndex (f .shape) y) c) (n .start .first)
 
-  first-works : puttingString row (c ∷ cs) (enter f b) (b .text) ≡ rest (fresh f) (begunWith b)
-  first-works = works f b (n .start) c cs row p r ∙ ap (λ (s : State). rest s (set (b .text) (characterIndex (f .shape) (f .position)) c)) (first-comes f b n) ∙ ap (rest (fresh f)) (at-first b)
+  first-works : puttingCharacters row w (c ∷ cs) (enter f b) (b .text) ≡ rest (fresh f) (begunWith b)
+  first-works = works f b (n .start) w c cs row p r ∙ ap (λ (s : State). rest s (set (b .text) (characterIndex (f .shape) (f .position)) c)) (first-comes f b n) ∙ ap (rest (fresh f)) (at-first b)
 
-  later-works : puttingString row (c ∷ cs) (enter f b′) (b′ .text) ≡ rest (fresh f) (begunWith b′)
-  later-works = works f b′ (n′ .start) c cs row p r ∙ ap (λ (s : State). rest s (set (b′ .text) (characterIndex (f .shape) (f .position)) c)) (later-comes f b′ n′) ∙ ap (rest (fresh f)) (at-first b′)
+  later-works : puttingCharacters row w (c ∷ cs) (enter f b′) (b′ .text) ≡ rest (fresh f) (begunWith b′)
+  later-works = works f b′ (n′ .start) w c cs row p r ∙ ap (λ (s : State). rest s (set (b′ .text) (characterIndex (f .shape) (f .position)) c)) (later-comes f b′ n′) ∙ ap (rest (fresh f)) (at-first b′)
 
-  puts-alike : AfterAlike (leave [] (puttingString row (c ∷ cs) (enter f b) (b .text))) (leave [] (puttingString row (c ∷ cs) (enter f b′) (b′ .text)))
+  puts-alike : AfterAlike (leave [] (puttingCharacters row w (c ∷ cs) (enter f b) (b .text))) (leave [] (puttingCharacters row w (c ∷ cs) (enter f b′) (b′ .text)))
   puts-alike =
-      subst (λ (o : Out Value). AfterAlike (leave [] o) (leave [] (puttingString row (c ∷ cs) (enter f b′) (b′ .text)))) (sym first-works)
+      subst (λ (o : Out Value). AfterAlike (leave [] o) (leave [] (puttingCharacters row w (c ∷ cs) (enter f b′) (b′ .text)))) (sym first-works)
       (subst (λ (o : Out Value). AfterAlike (leave [] (rest (fresh f) (begunWith b))) (leave [] o)) (sym later-works)
       (leave-alike (enter f b′) (length (b′ .text)) [] (rel-loosen {g = false} (enter f b′) (length (b′ .text)) rest-alike)))
 
 begins-alike : (f : File) (b b′ : Book) → FirstNight f b → LaterNight f b′ → (k : Call) → Begins k → AfterAlike (call k f b) (call k f b′)
 unfolding call work askingWork bufferOf
-begins-alike f b b′ n n′ k (character {c = c} {row = row} p r) = puts-alike f b b′ n n′ c [] row p r
-begins-alike f b b′ n n′ k (string {c = c} {cs = cs} {row = row} p r) = puts-alike f b b′ n n′ c cs row p r
+begins-alike f b b′ n n′ k (character {c = c} {row = row} p r) = puts-alike f b b′ n n′ false c [] row p r
+begins-alike f b b′ n n′ k (string {c = c} {cs = cs} {row = row} p r) = puts-alike f b b′ n n′ true c cs row p r
 
 -- A LATER NIGHT IS AS THE FIRST
 pub as-on-first-night : AsOnFirstNight

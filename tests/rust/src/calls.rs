@@ -106,6 +106,10 @@ pub fn close(file: &mut File, book: &Book) -> CallResult {
     reading!(transput_close, file, book, [], [])
 }
 
+pub fn choose(file: &mut File, book: &Book, split: bool) -> CallResult {
+    reading!(transput_choose, file, book, [split], [])
+}
+
 pub fn reset(file: &mut File, book: &Book) -> CallResult {
     reading!(transput_reset, file, book, [], [])
 }

@@ -41,6 +41,8 @@ pub struct File {
     pub reading: bool,
     /// Write mood.
     pub writing: bool,
+    /// Whether a string that does not fit on its line is split there, as the Report has it, or refused.
+    pub split: bool,
     pub rights: Rights,
 }
 
@@ -125,6 +127,18 @@ extern "C" {
     pub fn transput_close(
         file: *mut File,
         end: Position,
+        text: *const u8,
+        text_length: usize,
+        lines: *const u8,
+        lines_length: usize,
+        pages: *const u8,
+        pages_length: usize,
+    ) -> CallResult;
+
+    pub fn transput_choose(
+        file: *mut File,
+        end: Position,
+        split: bool,
         text: *const u8,
         text_length: usize,
         lines: *const u8,

@@ -4,14 +4,22 @@
 //! promised by the caller: what is bad is refused with a [`Refusal`].
 //!
 //! ```
-//! use transput::{Answer, Book, File, Rights, Shape, Stop, View};
+//! use transput::{Answer, Book, File, Refusal, Rights, Shape, Stop, View};
 //!
 //! let shape = Shape { pages: 2, lines: 3, characters: 8 };
 //! let rights = Rights { get: true, put: true, set: false, reset: true, compress: true };
 //! let mut book = Book::new(shape);
 //! let mut file = File::new(shape, rights);
 //! file.establish(&mut book).done()?;
-//! file.put_string(&mut book, b"10.20.30.4", &[]).done()?;
+//!
+//! // The address does not fit on its line: what was stored stays, and the rest is not stored.
+//! let put = file.put_string(&mut book, b"10.20.30.4", &[]);
+//! assert_eq!(put.refusal, Some(Refusal::StringDoesNotFit));
+//! assert_eq!(file.line_view(&book, 1, 1, b"(blank)")?, View::Line(b"10.20.30"));
+//!
+//! // With the Report's split the rest goes to the next line.
+//! file.split(&book).done()?;
+//! file.put_string(&mut book, b".4", &[]).done()?;
 //! assert_eq!(file.line_view(&book, 1, 2, b"(blank)")?, View::Line(b".4"));
 //!
 //! // The address stands on two lines: a newline as the answer to the line's end goes on with it.
@@ -116,13 +124,14 @@ impl File {
             opened: false,
             reading: false,
             writing: false,
+            split: false,
             position: Position::START,
             shape,
             rights,
         }
     }
 
-    /// Establishes a book: every length full, the end and the position (1,1,1), write mood. No character is wiped.
+    /// Establishes a book: every length full, the end and the position (1,1,1), write mood, no split. No character is wiped.
     pub fn establish(&mut self, book: &mut Book) -> Outcome {
         let result = calls::establish(self, book);
         book.after(result)
@@ -138,7 +147,17 @@ impl File {
         calls::close(self, book).into()
     }
 
-    /// Goes to (1,1,1), with the moods by the rights.
+    /// Chooses the Report's split for a string that does not fit on its line.
+    pub fn split(&mut self, book: &Book) -> Outcome {
+        calls::choose(self, book, true).into()
+    }
+
+    /// Chooses the refusal for a string that does not fit on its line, as establish and open do.
+    pub fn fit(&mut self, book: &Book) -> Outcome {
+        calls::choose(self, book, false).into()
+    }
+
+    /// Goes to (1,1,1), with the moods by the rights. The choice stays.
     pub fn reset(&mut self, book: &Book) -> Outcome {
         calls::reset(self, book).into()
     }
@@ -154,7 +173,8 @@ impl File {
         book.after(result)
     }
 
-    /// Puts the characters of a string in turn; an empty one only turns the mood.
+    /// Puts the characters of a string in turn; an empty one only turns the mood. Where the line ends before the string, the record's
+    /// choice is the default: a newline, or a refusal.
     pub fn put_string(&mut self, book: &mut Book, bytes: &[u8], row: &[u32]) -> Outcome {
         let result = calls::put_string(self, book, bytes, row);
         book.after(result)

@@ -19,11 +19,12 @@ pub enum Refusal {
     OutputTooShort = 12,
     LogicalEndUnmended = 14,
     PhysicalEndUnmended = 15,
+    StringDoesNotFit = 16,
 }
 
 impl Refusal {
     /// Every refusal, in the order of their numbers.
-    pub const ALL: [Refusal; 13] = [
+    pub const ALL: [Refusal; 14] = [
         Refusal::NotOpen,
         Refusal::BadAnswers,
         Refusal::BadBook,
@@ -37,6 +38,7 @@ impl Refusal {
         Refusal::OutputTooShort,
         Refusal::LogicalEndUnmended,
         Refusal::PhysicalEndUnmended,
+        Refusal::StringDoesNotFit,
     ];
 
     /// The number that the header gives it.
@@ -71,6 +73,7 @@ impl Refusal {
             Refusal::OutputTooShort => "the output is too short",
             Refusal::LogicalEndUnmended => "no answer mended the logical end",
             Refusal::PhysicalEndUnmended => "no answer mended the physical end",
+            Refusal::StringDoesNotFit => "the string does not fit on its line",
         }
     }
 }

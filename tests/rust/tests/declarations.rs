@@ -46,10 +46,11 @@ fn print_position(printed: &mut String, name: &str, place: Position) {
 fn print_side(printed: &mut String, side: &Side) {
     let file = &side.file;
     let flag = u8::from;
-    let moods = (flag(file.opened), flag(file.reading), flag(file.writing));
+    let flags = [file.opened, file.reading, file.writing, file.split];
+    let [opened, reading, writing, split] = flags.map(flag);
     print_line(
         printed,
-        format_args!("record {} {} {}", moods.0, moods.1, moods.2),
+        format_args!("record {opened} {reading} {writing} {split}"),
     );
     print_position(printed, "position", file.position);
     let (pages, lines, characters) = (file.shape.pages, file.shape.lines, file.shape.characters);
@@ -114,6 +115,7 @@ fn make_call(stage: &mut Stage, call: &Call, output: &mut [u8]) -> CallResult {
         Call::Establish => calls::establish(file, book),
         Call::Open => calls::open(file, book),
         Call::Close => calls::close(file, book),
+        Call::Choose(split) => calls::choose(file, book, *split),
         Call::Reset => calls::reset(file, book),
         Call::Backspace => calls::backspace(file, book),
         Call::PutCharacter(byte) => calls::put_character(file, book, *byte, &row),
@@ -259,7 +261,7 @@ fn c_and_rust_play_alike() {
             called.extend(name_of(line));
         }
     }
-    assert_eq!(called.len(), 19, "every call is in the script: {called:?}");
+    assert_eq!(called.len(), 21, "every call is in the script: {called:?}");
     assert_same_lines(&printed, &played_by_c(&script_of(&episodes)));
 }
 
@@ -282,6 +284,7 @@ fn functions_of_header() -> Vec<(String, String, String)> {
 /// A type of the header in Rust.
 fn rust_type(name: &str) -> &str {
     match name {
+        "bool" => "bool",
         "size_t" => "usize",
         "int32_t" => "i32",
         "uint8_t" => "u8",

@@ -35,8 +35,15 @@ impl Scene {
         scene
     }
 
-    fn after_e1() -> Scene {
+    /// The same with the Report's split, under which E1 to E5 are kept.
+    fn splitting() -> Scene {
         let mut scene = Scene::established(8);
+        assert_eq!(scene.file.split(&scene.book).refusal, None);
+        scene
+    }
+
+    fn after_e1() -> Scene {
+        let mut scene = Scene::splitting();
         assert_eq!(scene.put("abcdefghij").refusal, None);
         scene
     }
@@ -68,7 +75,7 @@ impl Scene {
 
 #[test]
 fn e1_put_over_a_line_end() {
-    let mut scene = Scene::established(8);
+    let mut scene = Scene::splitting();
     let outcome = scene.put("abcdefghij");
     assert_eq!(
         (outcome.refusal, outcome.events, outcome.taken),
@@ -80,6 +87,35 @@ fn e1_put_over_a_line_end() {
     );
     assert_eq!(scene.file.position, Position::new(1, 2, 3));
     assert_eq!(scene.book.end, Position::new(1, 2, 3));
+}
+
+#[test]
+fn e1_twin_is_refused_at_the_line_end() {
+    let mut scene = Scene::established(8);
+    let outcome = scene.put("abcdefghij");
+    assert_eq!(
+        (outcome.refusal, outcome.events, outcome.taken),
+        (Some(Refusal::StringDoesNotFit), 1, 0)
+    );
+    let told = Signalled {
+        event: Event::LineEnd,
+        at: Position::new(1, 1, 9),
+    };
+    assert_eq!(outcome.signalled, Some(told));
+    assert_eq!(
+        scene.file.line_view(&scene.book, 1, 1, b""),
+        Ok(View::Line(b"abcdefgh"))
+    );
+    assert_eq!(scene.book.end, Position::new(1, 1, 9));
+}
+
+#[test]
+fn reset_and_fit_and_the_choice() {
+    let mut scene = Scene::splitting();
+    scene.reset();
+    assert!(scene.file.split);
+    assert_eq!(scene.file.fit(&scene.book).refusal, None);
+    assert!(!scene.file.split);
 }
 
 #[test]

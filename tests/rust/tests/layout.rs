@@ -36,7 +36,7 @@ fn structs() -> Vec<String> {
         struct_lines!("transput_position", Position, page line character),
         struct_lines!("transput_shape", Shape, pages lines characters),
         struct_lines!("transput_rights", Rights, get put set reset compress),
-        struct_lines!("transput_file", File, position shape opened reading writing rights),
+        struct_lines!("transput_file", File, position shape opened reading writing split rights),
         struct_lines!("transput_result", CallResult, number stop given event value events taken count end signalled),
         struct_lines!("transput_view", ViewPlace, number marker from count),
         struct_lines!("transput_wrote", Wrote, number count),
@@ -71,6 +71,10 @@ fn numbers_and_stops() -> Vec<(&'static str, u32)> {
         (
             "TRANSPUT_PHYSICAL_END_UNMENDED",
             number(Refusal::PhysicalEndUnmended),
+        ),
+        (
+            "TRANSPUT_STRING_DOES_NOT_FIT",
+            number(Refusal::StringDoesNotFit),
         ),
         ("TRANSPUT_EVENT_NONE", 0),
         ("TRANSPUT_EVENT_LOGICAL_END", event(Event::LogicalEnd)),

@@ -38,6 +38,8 @@ fn make_call(stage: &mut Stage, call: &Call) -> Made {
         Call::Establish => file.establish(book),
         Call::Open => file.open(book),
         Call::Close => file.close(book),
+        Call::Choose(true) => file.split(book),
+        Call::Choose(false) => file.fit(book),
         Call::Reset => file.reset(book),
         Call::Backspace => file.backspace(book),
         Call::PutCharacter(byte) => file.put_character(book, *byte, &row),
@@ -130,6 +132,7 @@ fn file_of(stage: &Stage, side: &SecondSide) -> File {
         opened: file.opened,
         reading: file.read_mood,
         writing: file.write_mood,
+        split: file.split,
         position: stage.position(file.position),
         shape: stage.shape(file.shape),
         rights: episodes::rights_of(file.rights),
@@ -357,11 +360,11 @@ impl Counts {
         let numbers: BTreeSet<u32> = keys().map(|key| key.1).collect();
         assert_eq!(numbers, refusals.chain([0]).collect());
         let told: Vec<(u8, u32)> = self.told.keys().copied().collect();
-        let every = [(1, 11), (1, 14), (2, 11), (2, 15), (3, 11), (4, 11)];
-        let more = [(5, 8), (5, 11), (6, 9), (6, 11)];
-        assert_eq!(told, [&every[..], &more[..]].concat());
+        let file_ends = [(1, 11), (1, 14), (2, 11), (2, 15)];
+        let others = [(3, 11), (4, 11), (4, 16), (5, 8), (5, 11), (6, 9), (6, 11)];
+        assert_eq!(told, [&file_ends[..], &others[..]].concat());
         let done = keys().filter(|key| key.1 == 0).count();
-        assert_eq!(done, 19, "calls that were done");
+        assert_eq!(done, 21, "calls that were done");
         let of_differ = keys().filter(|key| key.0 == "differ").map(|key| key.1);
         assert_eq!(of_differ.collect::<Vec<u32>>(), [0, 1, 3, 12]);
         for name in keys().map(|key| key.0) {

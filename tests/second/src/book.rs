@@ -46,7 +46,8 @@ pub struct Rights {
     pub compress: bool,
 }
 
-/// "The record holds opened, read mood, write mood, position, P, L, C and the rights."
+/// "The record holds opened, read mood, write mood, position, P, L, C and the rights." With C-14
+/// it "gets a choice": `split` is true for "the Report's split" and false for the refusal.
 #[derive(Clone, Copy, PartialEq, Eq, Debug)]
 pub struct File {
     pub opened: bool,
@@ -55,6 +56,7 @@ pub struct File {
     pub position: Position,
     pub shape: Shape,
     pub rights: Rights,
+    pub split: bool,
 }
 
 /// "The caller lends the characters, a line length for each line and a page length for each

@@ -146,7 +146,8 @@ fn run<T>(
 }
 
 /// "Establish needs put; it sets every length to C and L, the logical end and position to
-/// (1,1,1), write mood on, read mood off, and wipes no character."
+/// (1,1,1), write mood on, read mood off, and wipes no character." "Establish and open choose the
+/// new one" (C-14): the refusal.
 pub fn establish(file: &mut File, book: &mut Book) -> CallResult {
     if !establish_fits(file, book) {
         return refused(Refusal::BadBook);
@@ -159,16 +160,19 @@ pub fn establish(file: &mut File, book: &mut Book) -> CallResult {
     book.logical_end = Position::START;
     file.position = Position::START;
     file.opened = true;
+    file.split = false;
     set_mood(file, Mood::Writing);
     only_number(Ok(()))
 }
 
-/// "Open takes a book with the logical end it has." It sets the moods and the position.
+/// "Open takes a book with the logical end it has." It sets the moods, the position and the
+/// choice of C-14.
 pub fn open(file: &mut File, book: &mut Book) -> CallResult {
     if !open_fits(file, book) {
         return refused(Refusal::BadBook);
     }
     file.opened = true;
+    file.split = false;
     steps::start_again(file);
     only_number(Ok(()))
 }
@@ -198,19 +202,39 @@ pub fn backspace(file: &mut File, book: &mut Book) -> CallResult {
     run(file, book, &[], steps::backspace).0
 }
 
-/// Put a character.
-pub fn put_character(file: &mut File, book: &mut Book, row: &[u32], byte: u8) -> CallResult {
-    put_string(file, book, row, &[byte])
+/// The two calls of C-14, which choose the Report's split or the refusal. "A call sets either on
+/// an open record, needing no right or mood": they "test [1] and [3], and take no answer row".
+pub fn choose(file: &mut File, book: &mut Book, split: bool) -> CallResult {
+    if let Err(refusal) = test_record(file, book) {
+        return refused(refusal);
+    }
+    file.split = split;
+    only_number(Ok(()))
 }
 
-/// Put a string.
-pub fn put_string(file: &mut File, book: &mut Book, row: &[u32], text: &[u8]) -> CallResult {
+/// A put of characters: tests 1, 3, 2, 4 and 5, then its step.
+fn put_text(
+    file: &mut File,
+    book: &mut Book,
+    row: &[u32],
+    step: impl FnOnce(&mut Work) -> Result<(), Ending>,
+) -> CallResult {
     let tested = test_record_and_row(file, book, row).and_then(|()| test_put(file));
     if let Err(refusal) = tested {
         return refused(refusal);
     }
     set_mood(file, Mood::Writing);
-    run(file, book, row, |work| steps::put_string(work, text)).0
+    run(file, book, row, step).0
+}
+
+/// Put a character. It "keeps the newline": the choice of C-14 is not asked.
+pub fn put_character(file: &mut File, book: &mut Book, row: &[u32], byte: u8) -> CallResult {
+    put_text(file, book, row, |work| steps::put_character(work, byte))
+}
+
+/// Put a string, with the choice of C-14 that the record has.
+pub fn put_string(file: &mut File, book: &mut Book, row: &[u32], text: &[u8]) -> CallResult {
+    put_text(file, book, row, |work| steps::put_string(work, text))
 }
 
 /// Put an integer; refusal 9 stands before 4 and 5.

@@ -1,10 +1,12 @@
 //! Checks of this implementation by itself: what document 01 promises of every call. What C-11
 //! promises is checked in `span_checks`, what C-12 does in `event_checks`, what C-13 does in
-//! `length_checks`. There too stands when lengths may grow: before C-13 it was at establish only.
+//! `length_checks`, what C-14 does in `choice_checks`. When lengths may grow stands with C-13:
+//! before it that was at establish only.
 
 use crate::book::{line_length, record_and_book_fit, shape_is_good, text_index};
 use crate::book::{Book, File, Position, Rights, Shape};
 use crate::calls::CallResult;
+use crate::choice_checks::{check_choice, ChoiceProperties};
 use crate::event_checks::{check_events, EventProperties, Made};
 use crate::length_checks::{check_lengths, check_nights, LengthProperties};
 use crate::random::Random;
@@ -37,13 +39,22 @@ pub struct Property {
     failed: u64,
 }
 
-/// The properties that are checked.
+/// The properties that are checked here.
 struct Properties {
     valid: Property,
     unchanged: Property,
     alike: Property,
     events: Property,
     integers: Property,
+}
+
+/// All properties: those of document 01 and those of each request.
+struct AllProperties {
+    of_base: Properties,
+    of_spans: SpanProperties,
+    of_events: EventProperties,
+    of_lengths: LengthProperties,
+    of_choice: ChoiceProperties,
 }
 
 impl Property {
@@ -244,18 +255,14 @@ fn check_call(
 }
 
 /// One episode: a scene, a twin of its book, and a list of calls.
-fn check_episode(
-    random: &mut Random,
-    properties: &mut Properties,
-    of_events: &mut EventProperties,
-    of_lengths: &mut LengthProperties,
-) {
+fn check_episode(random: &mut Random, properties: &mut AllProperties) {
     let scene = random_scene(random);
     let owner = Owner::of_scene(&scene);
     let twin = owner.twin(random);
     let alike = owner.book.alike(&twin.book);
     let mut pair = [owner, twin];
-    properties.alike.check(alike, || "at the start".to_string());
+    let of_start = &mut properties.of_base.alike;
+    of_start.check(alike, || "at the start".to_string());
     for _ in 0..random.between(0, 25) {
         let hints = pair[0].asked(|file, book| hints_of(file, book, scene.style));
         let row = if random.chance(45) {
@@ -264,15 +271,16 @@ fn check_episode(
             Vec::new()
         };
         let call = random_call(random, &hints);
-        let (before, result) = check_call(properties, &mut pair, &call, &row);
+        let (before, result) = check_call(&mut properties.of_base, &mut pair, &call, &row);
         let made = Made {
             before: &before,
             call: &call,
             row: &row,
             result: &result,
         };
-        check_events(random, of_events, &made, &mut pair[0]);
-        check_lengths(of_lengths, &made, &pair[0]);
+        check_events(random, &mut properties.of_events, &made, &mut pair[0]);
+        check_lengths(&mut properties.of_lengths, &made, &pair[0]);
+        check_choice(&mut properties.of_choice, &made, &mut pair[0]);
     }
 }
 
@@ -297,6 +305,7 @@ fn fresh_owner(random: &mut Random) -> Owner {
         position: Position::START,
         shape,
         rights,
+        split: false,
     };
     let lines = (shape.pages * shape.lines) as usize;
     let book = OwnBook {
@@ -307,6 +316,7 @@ fn fresh_owner(random: &mut Random) -> Owner {
     };
     let mut owner = Owner { file, book };
     owner.make(&Call::Establish, &[]);
+    owner.make(&Call::Choose(random.chance(50)), &[]);
     for _ in 0..random.below(lines) {
         let length = random.below(20);
         owner.make(&Call::PutString(vec![b'9'; length]), &[]);
@@ -414,30 +424,42 @@ impl Properties {
     }
 }
 
+impl AllProperties {
+    fn new() -> AllProperties {
+        AllProperties {
+            of_base: Properties::new(),
+            of_spans: SpanProperties::new(),
+            of_events: EventProperties::new(),
+            of_lengths: LengthProperties::new(),
+            of_choice: ChoiceProperties::new(),
+        }
+    }
+
+    /// The properties in the order in which they are told.
+    fn all(self) -> Vec<Property> {
+        let mut all = Vec::from(self.of_base.all());
+        all.extend(self.of_spans.all());
+        all.extend(self.of_events.all());
+        all.extend(self.of_lengths.all());
+        all.extend(self.of_choice.all());
+        all
+    }
+}
+
 /// Runs all checks and says how they went: how many, and how many failed.
 pub fn check(seed: u64, episodes: u64) -> (u64, u64) {
-    let mut properties = Properties::new();
-    let mut of_spans = SpanProperties::new();
-    let mut of_events = EventProperties::new();
-    let mut of_lengths = LengthProperties::new();
+    let mut properties = AllProperties::new();
     for episode in 0..episodes {
         let mut random = Random::for_episode(seed, episode);
-        check_episode(
-            &mut random,
-            &mut properties,
-            &mut of_events,
-            &mut of_lengths,
-        );
+        check_episode(&mut random, &mut properties);
         for _ in 0..3 {
-            check_integer(&mut random, &mut properties.integers);
-            check_pair(&mut random, &mut of_spans);
-            check_nights(&mut random, &mut of_lengths);
+            check_integer(&mut random, &mut properties.of_base.integers);
+            check_pair(&mut random, &mut properties.of_spans);
+            check_nights(&mut random, &mut properties.of_lengths);
         }
     }
     let mut total = (0, 0);
-    let all = properties.all().into_iter();
-    let of_changes = of_events.all().into_iter().chain(of_lengths.all());
-    for property in all.chain(of_spans.all()).chain(of_changes) {
+    for property in properties.all() {
         let Property {
             name,
             checks,

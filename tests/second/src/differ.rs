@@ -269,7 +269,10 @@ pub fn differ(options: &Options) -> std::io::Result<(u64, u64)> {
 
 #[cfg(test)]
 mod tests {
+    use std::collections::BTreeMap;
+
     use super::*;
+    use crate::replay::{read_line, Line};
 
     /// Output without its bad lines, whose numbers depend on what stands before.
     fn without_bad_lines(output: &[u8]) -> Script {
@@ -363,8 +366,15 @@ mod tests {
                 assert!(told.contains(&jump), "{jump}");
             }
         }
+        let own = [
+            "8 character",
+            "9 value",
+            "14 logical",
+            "15 physical",
+            "16 line",
+        ];
         for way in ["", " later"] {
-            for refusal in ["8 character", "9 value", "14 logical", "15 physical"] {
+            for refusal in own {
                 let refusal = format!("{refusal}{way}");
                 assert!(told.contains(&refusal), "{refusal}");
             }
@@ -390,6 +400,67 @@ mod tests {
             let with = batch.episodes.iter().filter(|it| takes_end_back(it));
             let count = with.count();
             assert!(count >= 40, "{count}");
+        }
+    }
+
+    /// How often each call's line comes, told as its name, its number, the choice that its
+    /// record is left with (C-14), and whether an event was signalled and an answer taken.
+    fn ways_of_calls(output: &[u8]) -> BTreeMap<String, u64> {
+        let text = String::from_utf8_lossy(output);
+        let mut ways = BTreeMap::new();
+        for line in text.lines().filter(|line| line.contains(" | ")) {
+            let groups: Vec<&str> = line.split(" | ").collect();
+            let words: Vec<&str> = groups[0].split(' ').collect();
+            let choice = groups[1].split(' ').nth(6).unwrap_or_default();
+            let event = if words[2] == "0" { "" } else { " event" };
+            let answer = if words[3] == "0" { "" } else { " answer" };
+            let way = format!("{} {} {choice}{event}{answer}", words[0], words[1]);
+            *ways.entry(way).or_insert(0) += 1;
+        }
+        ways
+    }
+
+    #[test]
+    fn strings_meet_line_ends_under_both_choices() {
+        let batch = make_batch(42, Books::One, 0, 600);
+        let ways = ways_of_calls(&batch.output);
+        let expected = [
+            ("split 0 1", 100),
+            ("split 1 0", 1),
+            ("split 1 1", 1),
+            ("split 3 0", 1),
+            ("split 3 1", 1),
+            ("fit 0 0", 100),
+            ("fit 1 0", 1),
+            ("fit 1 1", 1),
+            ("fit 3 0", 1),
+            ("fit 3 1", 1),
+            ("puts 16 0 event", 60),
+            ("puts 16 0 event answer", 20),
+            ("puts 0 0 event answer", 20),
+            ("puts 0 1 event", 20),
+            ("puts 0 1 event answer", 20),
+        ];
+        for (way, least) in expected {
+            let count = ways.get(way).copied().unwrap_or(0);
+            assert!(count >= least, "{way}: {count}");
+        }
+        let with_split = |way: &&String| way.starts_with("puts 16 1");
+        assert_eq!(ways.keys().find(with_split), None);
+    }
+
+    #[test]
+    fn choices_are_made_by_lines_of_a_record_and_left_by_others() {
+        let lines = make_batch(42, Books::One, 0, 300).episodes.concat();
+        let mut kinds = BTreeMap::new();
+        for line in &lines {
+            if let Some(Line::Record(_, _, choice)) = read_line(line) {
+                *kinds.entry(choice).or_insert(0) += 1;
+            }
+        }
+        for choice in [None, Some(true), Some(false)] {
+            let count = kinds.get(&choice).copied().unwrap_or(0);
+            assert!(count >= 100, "{choice:?}: {count}");
         }
     }
 

@@ -1,11 +1,12 @@
 //! Random episodes as scripts of the format that README gives: a scene that sets everything, or two of them, then calls
 //! with their rows, changes of the scene, bad lines and dumps.
 
-use crate::book::{record_and_book_fit, text_index, Book, File, Position, Rights};
+use crate::book::{line_length, record_and_book_fit, text_index};
+use crate::book::{Book, File, Position, Rights};
 use crate::pairs::other_scene;
 use crate::random::Random;
 use crate::replay::{call_name, write_hex, write_position, Call, Player};
-use crate::scenes::{good_scene, Hints, Scene, Style, JUMP, LARGE};
+use crate::scenes::{good_scene, Hints, Scene, Style, JUMP, LARGE, NEWLINE};
 use crate::scenes::{hints_of, random_call, random_put, random_row, random_scene};
 use crate::scenes::{random_target, random_text};
 use crate::spans::{differing_spans, Looked};
@@ -32,7 +33,9 @@ const ODD_LINES: &str = "\
     view 65536 1 -|view 1 1 - -|whole 1 32768 4|whole 1 -32769 4|whole 1 2|\
     whole 1 2 4097|whole 2147483648 0 20|whole 1 +2 4|row 0000000|row 000000000|\
     row 0000000g|row |row 20000000 |row  20000000|row -|record 2 0 0 1 1 1|\
-    record 1 0 0 1 1|record 1 0 0 1 1 65536|rights|rights gg|rights gpx|rights G|\
+    record 1 0 0 1 1|record 1 0 0 1 1 65536|record 1 0 0 1 1 1 2|record 1 0 0 1 1 1 -|\
+    record 1 0 0 1 1 1 |record 1 0 0 1 1 1 0 0|split 1|split |Split|splits|split\r|fit 0|\
+    fit -|Fit|fits|# split|# fit|rights|rights gg|rights gpx|rights G|\
     rights g-|rights g p|lend 70001 6 2|lend 48 1101 2|lend 48 6 301|lend 48 6|\
     shape 1 1|shape 65536 1 1|shape -1 1 1|end 1 1|end 1 1 65536|fill 6|fill 616|fill -|\
     text 65536 61|text 0|lines 1100 00|pages 300 00|dump 1||#|# puts 61|Swap|swap 1|swap |\
@@ -74,15 +77,24 @@ pub fn write_call(call: &Call) -> String {
     }
 }
 
-/// A record's line.
-fn write_record(opened: bool, read_mood: bool, write_mood: bool, position: Position) -> String {
+/// A record's line: opened and the moods, the position, and the choice of C-14 if it is set too.
+fn write_record(flags: [bool; 3], position: Position, choice: Option<bool>) -> String {
+    let [opened, read_mood, write_mood] = flags.map(u8::from);
+    let split = choice.map_or(String::new(), |split| format!(" {}", u8::from(split)));
     format!(
-        "record {} {} {} {}",
-        u8::from(opened),
-        u8::from(read_mood),
-        u8::from(write_mood),
+        "record {opened} {read_mood} {write_mood} {}{split}",
         write_position(position)
     )
+}
+
+/// The flags of a record, as its line has them.
+fn flags_of(file: &File) -> [bool; 3] {
+    [file.opened, file.read_mood, file.write_mood]
+}
+
+/// The choice of a record's line in the middle of an episode; often it is left as it is.
+fn random_choice(random: &mut Random) -> Option<bool> {
+    random.pick([None, None, None, Some(true), Some(false)])
 }
 
 /// A row's line.
@@ -251,15 +263,15 @@ impl Maker<'_> {
         self.add(format!("pages 0 {}", write_hex(&scene.page_lengths)));
         self.add_text(scene);
         self.add(format!("end {}", write_position(scene.logical_end)));
-        self.add(write_record(
-            file.opened,
-            file.read_mood,
-            file.write_mood,
-            file.position,
-        ));
+        let choice = Some(file.split);
+        self.add(write_record(flags_of(file), file.position, choice));
         if self.random.chance(45) {
             let start = self.random.pick(["establish", "open", "reset", "open"]);
             self.add(start);
+        }
+        if self.random.chance(30) {
+            let call = self.random.pick(["split", "split", "fit"]);
+            self.add(call);
         }
     }
 
@@ -305,11 +317,12 @@ impl Maker<'_> {
             ..end
         };
         let row = random_row(&mut self.random, &hints);
+        let choice = random_choice(&mut self.random);
         let line = if hints.file.rights.get && self.random.chance(60) {
-            self.add(write_record(true, true, false, place));
+            self.add(write_record([true, true, false], place, choice));
             format!("setc {}", end.character + self.random.between(1, 2))
         } else {
-            self.add(write_record(true, false, false, place));
+            self.add(write_record([true, false, false], place, choice));
             let past = Position {
                 character: end.character + 1,
                 ..end
@@ -337,7 +350,7 @@ impl Maker<'_> {
         let mut digits = vec![self.random.pick([b'3', b'9']); self.random.pick([10, 11, 30])];
         digits.push(b' ');
         self.add(format!("text {index} {}", write_hex(&digits)));
-        self.add(write_record(true, true, false, place));
+        self.add(write_record([true, true, false], place, None));
         let row = match self.random.below(8) {
             0 => vec![JUMP],
             1 | 2 => vec![0, JUMP],
@@ -377,6 +390,54 @@ impl Maker<'_> {
             let next = self.random.pick(["newline", "newline", "newpage"]);
             self.add(next);
         }
+    }
+
+    /// A choice of C-14, by its call or by the record's line, on a record of any kind.
+    fn add_choice(&mut self) {
+        let split = self.random.chance(50);
+        let file = self.player.first.file;
+        let line = match self.random.chance(60) {
+            true => write_call(&Call::Choose(split)),
+            false => write_record(flags_of(&file), file.position, Some(split)),
+        };
+        self.add(line);
+    }
+
+    /// A writer made for a string that is to meet a line end, with a choice that was made by the
+    /// record's line, by a call, or before.
+    fn add_writer(&mut self, place: Position) {
+        let split = self.random.chance(50);
+        let writes = self.random.chance(85);
+        let by_line = Some(split).filter(|_| self.random.chance(50));
+        self.add(write_record([true, false, writes], place, by_line));
+        if by_line.is_none() && self.random.chance(70) {
+            self.add(write_call(&Call::Choose(split)));
+        }
+    }
+
+    /// A string that just fits its line, or is a little too long for it, or goes over several
+    /// lines (C-14), with answers and without.
+    fn add_long_string(&mut self) {
+        let hints = self.hints();
+        let here = hints.file.position;
+        let place = self.random.pick([here, hints.end, Position::START]);
+        let shape = hints.file.shape;
+        let length = self.asked(|_, book| line_length(shape, book, place.page, place.line));
+        let room = (length + 1).saturating_sub(place.character) as usize;
+        let over = self.random.pick([0, 1, 1, 2, length as usize + 1]);
+        let text = random_text(&mut self.random, hints.style, room + over);
+        if hints.file.rights.put {
+            self.add_writer(place);
+        }
+        let row = match self.random.below(10) {
+            0 | 1 => vec![0],
+            2 => vec![NEWLINE],
+            3 => vec![NEWLINE, 0],
+            4 | 5 => random_row(&mut self.random, &hints),
+            _ => Vec::new(),
+        };
+        self.add(write_row(&row));
+        self.add_varied(format!("puts {}", write_hex(&text)));
     }
 
     /// A call's line, now and then with a row before it.
@@ -424,12 +485,9 @@ impl Maker<'_> {
         }
         let file = self.player.first.file;
         if !file.opened && self.random.chance(15) {
-            self.add(write_record(
-                true,
-                file.read_mood,
-                file.write_mood,
-                file.position,
-            ));
+            let choice = random_choice(&mut self.random);
+            let flags = [true, file.read_mood, file.write_mood];
+            self.add(write_record(flags, file.position, choice));
         }
         if self.random.chance(4) {
             self.add_odd_line();
@@ -442,6 +500,12 @@ impl Maker<'_> {
         }
         if self.random.chance(5) {
             self.add_nights();
+        }
+        if self.random.chance(5) {
+            self.add_choice();
+        }
+        if self.random.chance(6) {
+            self.add_long_string();
         }
         if self.random.rarely(1) && self.random.chance(30) {
             self.add_long_line();
@@ -496,6 +560,7 @@ impl Maker<'_> {
         let shape = file.shape;
         let place = random_target(&mut self.random, &hints);
         let random = &mut self.random;
+        let choice = random_choice(random);
         let line = match random.below(9) {
             0 => {
                 let both = random.chance(60);
@@ -508,11 +573,11 @@ impl Maker<'_> {
                 };
                 format!("rights {}", write_rights(rights, random.below(5)))
             }
-            1 => write_record(true, file.read_mood, file.write_mood, place),
-            2 => write_record(true, false, false, file.position),
+            1 => write_record([true, file.read_mood, file.write_mood], place, choice),
+            2 => write_record([true, false, false], file.position, choice),
             3 => {
                 let reads = random.chance(50);
-                write_record(true, reads, !reads, file.position)
+                write_record([true, reads, !reads], file.position, choice)
             }
             4 => format!("end {}", write_position(place)),
             5 => format!("shape {} {} {}", shape.lines, shape.pages, shape.characters),

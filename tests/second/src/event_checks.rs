@@ -31,8 +31,10 @@ pub struct Made<'m> {
 impl EventProperties {
     pub fn new() -> EventProperties {
         EventProperties {
-            given: Property::new("an event is told exactly with 8, 9 during work, 11, 14 and 15"),
-            fitting: Property::new("8, 9, 14 and 15 tell their own event"),
+            given: Property::new(
+                "an event is told exactly with 8, 9 during work, 11, 14, 15 and 16",
+            ),
+            fitting: Property::new("8, 9, 14, 15 and 16 tell their own event"),
             position: Property::new("an event is told with the position left"),
             cause: Property::new("an event that is told has its cause where it was signalled"),
             jumps: Property::new("any event that is answered 8 is told with 11"),
@@ -59,10 +61,11 @@ impl Default for EventProperties {
     }
 }
 
-/// "A refusal that an event ends in (8, 9, 11, 14 or 15)." 9 before work has signalled nothing.
+/// "A refusal that an event ends in (8, 9, 11, 14 or 15)", and with C-14 "16, with its event". 9
+/// before work has signalled nothing.
 fn ends_in_event(result: &CallResult) -> bool {
     match result.number {
-        8 | 11 | 14 | 15 => true,
+        8 | 11 | 14 | 15 | 16 => true,
         9 => result.events > 0,
         _ => false,
     }
@@ -75,6 +78,7 @@ fn fits_number(number: u32, event: Event) -> bool {
         9 => event == Event::Value,
         14 => event == Event::LogicalEnd,
         15 => event == Event::PhysicalEnd,
+        16 => event == Event::LineEnd,
         _ => number == 11,
     }
 }

@@ -9,6 +9,9 @@ use crate::random::Random;
 use crate::replay::Call;
 use crate::scenes::{good_scene, hints_of, random_call, random_row, random_text, Hints, Style};
 
+/// The longest string that is put again by a call for each character.
+pub const MOST_IN_TURN: usize = 60;
+
 /// The properties that are checked.
 pub struct LengthProperties {
     kept: Property,
@@ -128,21 +131,41 @@ fn check_character(properties: &mut LengthProperties, before: &Owner, byte: u8) 
 }
 
 /// "The new lengths hold for the next character of the same call already": the same record and
-/// book are left, and the same is handed back, as by calls for the characters in turn.
+/// book are left, and the same is handed back, as by calls for the characters in turn. Each is
+/// put as a string, which takes the choice that the whole one takes (C-14).
 fn check_in_turn(properties: &mut LengthProperties, made: &Made, after: &Owner, text: &[u8]) {
     let mut owner = made.before.clone();
+    let one_character = |byte| Call::PutString(vec![byte]);
+    let result = put_in_turn(&mut owner, text, made.row, one_character);
+    let same = result == *made.result && owner == *after;
+    let about = || format!("{text:02x?} on {:?}: {:?}", made.before, made.result);
+    properties.in_turn.check(same, about);
+}
+
+/// Puts characters in turn, each with a call and with the answers that the calls before it left,
+/// up to one that is refused. Gives what one call for all of them has to hand back.
+pub fn put_in_turn(
+    owner: &mut Owner,
+    text: &[u8],
+    row: &[u32],
+    call_for: impl Fn(u8) -> Call,
+) -> CallResult {
     let mut last = CallResult::default();
-    let mut events = 0;
+    let (mut events, mut taken) = (0, 0);
     for &byte in text {
-        last = owner.make(&Call::PutCharacter(byte), &[]);
+        let left = row.get(taken as usize..).unwrap_or_default();
+        last = owner.make(&call_for(byte), left);
         events += last.events;
+        taken += last.taken;
         if last.number != 0 {
             break;
         }
     }
-    let same = CallResult { events, ..last } == *made.result && owner == *after;
-    let about = || format!("{text:02x?} on {:?}: {:?}", made.before, made.result);
-    properties.in_turn.check(same, about);
+    CallResult {
+        events,
+        taken,
+        ..last
+    }
 }
 
 /// One call that was made, and characters of it put alone.
@@ -159,7 +182,7 @@ pub fn check_lengths(properties: &mut LengthProperties, made: &Made, after: &Own
     match call {
         Call::PutString(text) if !text.is_empty() => {
             check_character(properties, before, text[0]);
-            if made.row.is_empty() && text.len() <= 60 {
+            if text.len() <= MOST_IN_TURN {
                 check_in_turn(properties, made, after, text);
             }
         }
@@ -179,12 +202,14 @@ fn random_line(random: &mut Random, hints: &Hints) -> Vec<u8> {
     random_text(random, hints.style, length)
 }
 
-/// A night: it begins with a character that is stored where the book begins, then come strings,
-/// newlines, newpages and any calls.
+/// A night: it begins with a choice, which a reset would else leave from the night before, and a
+/// character that is stored where the book begins; then come strings, newlines, newpages and any
+/// calls.
 fn random_night(random: &mut Random, hints: &Hints) -> Night {
     let mut first = random_line(random, hints);
     first[0] = random.pick([b'n', b' ', b'7']);
-    let mut night = vec![(Call::PutString(first), Vec::new())];
+    let choice = Call::Choose(random.chance(50));
+    let mut night = vec![(choice, Vec::new()), (Call::PutString(first), Vec::new())];
     for _ in 0..random.between(1, 8) {
         let call = match random.weighted([30, 35, 10, 25]) {
             0 => Call::PutString(random_line(random, hints)),

@@ -4,6 +4,7 @@
 pub mod book;
 pub mod calls;
 pub mod checks;
+pub mod choice_checks;
 pub mod differ;
 pub mod episodes;
 pub mod event_checks;

@@ -41,11 +41,13 @@ fn scene_near(random: &mut Random, scene: &Scene) -> Scene {
     other
 }
 
-/// Another position, and other moods with the same rights: they make no difference.
+/// Another position, another choice, and other moods with the same rights: they make no
+/// difference.
 fn change_record(random: &mut Random, scene: &mut Scene) {
     let (read_mood, write_mood) = random_moods(random, scene.file.rights);
     scene.file.read_mood = read_mood;
     scene.file.write_mood = write_mood;
+    scene.file.split = random.chance(50);
     scene.file.position = scene.random_position(random);
 }
 

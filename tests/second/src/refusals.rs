@@ -3,7 +3,7 @@
 use crate::book::Position;
 
 /// The numbers of document 01's table, but for 0, with C-12: "7 is retired; 14 is logical end,
-/// 15 physical end, in 7's place".
+/// 15 physical end, in 7's place", and with C-14: "16, string does not fit".
 #[derive(Clone, Copy, PartialEq, Eq, Debug)]
 pub enum Refusal {
     NotOpen = 1,
@@ -19,6 +19,7 @@ pub enum Refusal {
     OutputTooShort = 12,
     LogicalEnd = 14,
     PhysicalEnd = 15,
+    DoesNotFit = 16,
 }
 
 /// "Events: logical end, physical end, page end, line end, character, value."

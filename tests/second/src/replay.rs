@@ -43,6 +43,8 @@ pub enum Call {
     SetCharNumber(u32),
     View(u32, u32, Vec<u8>),
     Whole(i32, i32, usize),
+    /// The calls of C-14: true is `split`, false is `fit`.
+    Choose(bool),
 }
 
 /// A line of a script that could be read.
@@ -51,7 +53,8 @@ pub enum Line {
     Shape(Shape),
     Lend(usize, usize, usize),
     Rights(Rights),
-    Record([bool; 3], Position),
+    /// The flags, the position, and the choice of C-14 where the line has one.
+    Record([bool; 3], Position, Option<bool>),
     End(Position),
     Fill(u8),
     Text(usize, Vec<u8>),
@@ -190,6 +193,24 @@ fn read_position(page: &[u8], line: &[u8], character: &[u8]) -> Option<Position>
     ))
 }
 
+/// "`record O R W p l c S` sets the choice too; with six numbers the line leaves the choice as it
+/// is." The words after the line's name.
+fn read_record(words: &[&[u8]]) -> Option<Line> {
+    let [o, r, w, p, l, c, rest @ ..] = words else {
+        return None;
+    };
+    let choice = match rest {
+        [] => None,
+        [split] => Some(read_flag(split)?),
+        _ => return None,
+    };
+    Some(Line::Record(
+        [read_flag(o)?, read_flag(r)?, read_flag(w)?],
+        read_position(p, l, c)?,
+        choice,
+    ))
+}
+
 /// Bytes from an index, "a bad line where they do not fit the room".
 fn read_placed(index: &[u8], hex: &[u8], room: usize) -> Option<(usize, Vec<u8>)> {
     let index = read_size(index, LARGEST_NUMBER)?;
@@ -214,10 +235,7 @@ fn read_scene_line(words: &[&[u8]]) -> Option<Line> {
             read_size(m, PAGES_ROOM as u64)?,
         )),
         [b"rights", word] => read_rights(word).map(Line::Rights),
-        [b"record", o, r, w, p, l, c] => Some(Line::Record(
-            [read_flag(o)?, read_flag(r)?, read_flag(w)?],
-            read_position(p, l, c)?,
-        )),
+        [b"record", words @ ..] => read_record(words),
         [b"end", p, l, c] => read_position(p, l, c).map(Line::End),
         [b"fill", byte] => read_byte(byte).map(Line::Fill),
         [b"text", i, hex] => read_placed(i, hex, TEXT_ROOM).map(|(i, b)| Line::Text(i, b)),
@@ -237,6 +255,8 @@ fn read_call(words: &[&[u8]]) -> Option<Call> {
         [b"open"] => Some(Call::Open),
         [b"close"] => Some(Call::Close),
         [b"reset"] => Some(Call::Reset),
+        [b"split"] => Some(Call::Choose(true)),
+        [b"fit"] => Some(Call::Choose(false)),
         [b"putc", byte] => read_byte(byte).map(Call::PutCharacter),
         [b"puts", hex] => read_hex(hex).map(Call::PutString),
         [b"puti", value] => read_signed(value, 2_147_483_647).map(Call::PutInteger),
@@ -312,6 +332,8 @@ pub fn call_name(call: &Call) -> &'static str {
         Call::SetCharNumber(_) => "setc",
         Call::View(_, _, _) => "view",
         Call::Whole(_, _, _) => "whole",
+        Call::Choose(true) => "split",
+        Call::Choose(false) => "fit",
     }
 }
 
@@ -338,6 +360,7 @@ pub fn make_call(call: &Call, file: &mut File, book: &mut Book, row: &[u32]) -> 
         Call::SetCharNumber(number) => calls::set_char_number(file, book, row, *number),
         Call::View(page, line, marker) => calls::view(file, book, *page, *line, marker),
         Call::Whole(value, width, size) => calls::whole(*value, *width, &mut vec![0xee; *size]),
+        Call::Choose(split) => calls::choose(file, book, *split),
     }
 }
 
@@ -449,11 +472,11 @@ impl Player {
             Line::Shape(shape) => side.file.shape = shape,
             Line::Lend(text, lines, pages) => side.lent = (text, lines, pages),
             Line::Rights(rights) => side.file.rights = rights,
-            Line::Record([opened, read_mood, write_mood], position) => {
-                side.file.opened = opened;
-                side.file.read_mood = read_mood;
-                side.file.write_mood = write_mood;
-                side.file.position = position;
+            Line::Record(flags, position, choice) => {
+                let file = &mut side.file;
+                [file.opened, file.read_mood, file.write_mood] = flags;
+                file.position = position;
+                file.split = choice.unwrap_or(file.split);
             }
             Line::End(end) => side.logical_end = end,
             Line::Fill(byte) => side.text.fill(byte),
@@ -482,13 +505,14 @@ impl Player {
         self.show("differ", &result, output);
     }
 
-    /// "NAME NUMBER EVENTS TAKEN STOP COUNT VALUE BYTES | OPENED READ WRITE p l c | p l c", and
-    /// with C-12 "one more group at its end: ` | EVENT p l c`, or ` | -`".
+    /// "NAME NUMBER EVENTS TAKEN STOP COUNT VALUE BYTES | OPENED READ WRITE p l c | p l c", with
+    /// C-12 "one more group at its end: ` | EVENT p l c`, or ` | -`", and with C-14 "the choice as
+    /// [the record's] seventh number".
     fn show(&self, name: &str, result: &CallResult, output: &mut Vec<u8>) {
         let value = result.value.map_or("-".to_string(), |n| n.to_string());
         let file = &self.first.file;
         let shown = format!(
-            "{} {} {} {} {} {} {} {} | {} {} {} {} | {} | {}\n",
+            "{} {} {} {} {} {} {} {} | {} {} {} {} {} | {} | {}\n",
             name,
             result.number,
             result.events,
@@ -501,6 +525,7 @@ impl Player {
             u8::from(file.read_mood),
             u8::from(file.write_mood),
             write_position(file.position),
+            u8::from(file.split),
             write_position(self.first.logical_end),
             write_signalled(result.signalled),
         );

@@ -310,6 +310,7 @@ pub fn good_scene(random: &mut Random) -> Scene {
             position: Position::START,
             shape,
             rights,
+            split: random.chance(50),
         },
         logical_end: Position::START,
         lent: (text, lines, pages),
@@ -532,6 +533,9 @@ fn random_row_length(random: &mut Random) -> usize {
 /// The answer of a program that jumped away.
 pub const JUMP: u32 = 8 << 28;
 
+/// The answer of a program that made a newline.
+pub const NEWLINE: u32 = 2 << 28;
+
 /// A row of answers: mixed, of layout answers that signal events themselves, of one kind only,
 /// or of plain true ones; ended early by a jump, so that every event is jumped from; bad now
 /// and then.
@@ -731,31 +735,62 @@ fn random_way_back(random: &mut Random, hints: &Hints) -> Call {
     }
 }
 
-/// Any call; one that the record's state allows most often.
-pub fn random_call(random: &mut Random, hints: &Hints) -> Call {
-    let file = &hints.file;
-    let at_end = file.read_mood && file.position == hints.end;
-    if (at_end || file.position.page > file.shape.pages) && random.chance(45) {
-        return random_way_back(random, hints);
+/// A way on from the end of a line, where the refusal of C-14 keeps every string.
+fn random_way_on(random: &mut Random) -> Call {
+    match random.below(4) {
+        0 => Call::Choose(true),
+        1 => Call::Newpage,
+        _ => Call::Newline,
     }
-    let no_mood = !file.read_mood && !file.write_mood;
-    if no_mood && file.rights.set && random.chance(20) {
-        return Call::Set(random_target(random, hints));
+}
+
+/// A call on a record that is not open: most often one that opens it.
+fn random_opening(random: &mut Random) -> Call {
+    match random.below(10) {
+        0 => Call::Choose(random.chance(50)),
+        1..=3 => Call::Establish,
+        _ => Call::Open,
     }
-    if !file.opened && random.chance(70) {
-        return match random.below(3) {
-            0 => Call::Establish,
-            _ => Call::Open,
-        };
-    }
-    let reads = match (file.read_mood, file.write_mood) {
+}
+
+/// Whether a get is made rather than a put; most often the one that mood and rights allow.
+fn random_reads(random: &mut Random, file: &File) -> bool {
+    match (file.read_mood, file.write_mood) {
         (true, _) if !file.rights.set => random.chance(90),
         (_, true) if !file.rights.set => random.chance(10),
         _ if !file.rights.put => random.chance(88),
         _ if !file.rights.get => random.chance(12),
         _ => random.chance(50),
-    };
-    match random.weighted([46, 40, 4, 3, 1, 6]) {
+    }
+}
+
+/// A call that leads on from where the record stands: from the end of the book, from the end of
+/// a line, from no mood, and from a record that is not open.
+fn random_lead(random: &mut Random, hints: &Hints) -> Option<Call> {
+    let file = &hints.file;
+    let at_end = file.read_mood && file.position == hints.end;
+    let at_line_end = file.write_mood && file.position.character > hints.line_length;
+    let no_mood = !file.read_mood && !file.write_mood;
+    if (at_end || file.position.page > file.shape.pages) && random.chance(45) {
+        Some(random_way_back(random, hints))
+    } else if at_line_end && !file.split && random.chance(25) {
+        Some(random_way_on(random))
+    } else if no_mood && file.rights.set && random.chance(20) {
+        Some(Call::Set(random_target(random, hints)))
+    } else if !file.opened && random.chance(70) {
+        Some(random_opening(random))
+    } else {
+        None
+    }
+}
+
+/// Any call; one that the record's state allows most often.
+pub fn random_call(random: &mut Random, hints: &Hints) -> Call {
+    if let Some(call) = random_lead(random, hints) {
+        return call;
+    }
+    let reads = random_reads(random, &hints.file);
+    match random.weighted([46, 40, 4, 3, 1, 6, 4]) {
         0 if reads => random_get(random, hints),
         0 => random_put(random, hints),
         1 => random_layout(random, hints),
@@ -763,7 +798,8 @@ pub fn random_call(random: &mut Random, hints: &Hints) -> Call {
         3 if random.chance(50) => Call::Open,
         3 => Call::Establish,
         4 => Call::Close,
-        _ => random_view(random, hints),
+        5 => random_view(random, hints),
+        _ => Call::Choose(random.chance(60)),
     }
 }
 

@@ -66,7 +66,8 @@ fn simplify_lines(mut script: Script, question: Question) -> Script {
     script
 }
 
-/// The simpler forms of a line: a word of a row left out, a word made simpler.
+/// The simpler forms of a line: a word of a row left out, a record without its choice, a word
+/// made simpler.
 fn simpler_lines(line: &[u8]) -> Script {
     let words: Vec<&[u8]> = line.split(|&byte| byte == b' ').collect();
     let name = words.first().copied().unwrap_or_default();
@@ -79,6 +80,9 @@ fn simpler_lines(line: &[u8]) -> Script {
             fewer.remove(index);
             lines.push(fewer.join(&b' '));
         }
+    }
+    if name == b"record" && words.len() == 8 {
+        lines.push(words[..7].join(&b' '));
     }
     for index in 1..words.len() {
         for word in simpler_words(name, index, words[index]) {

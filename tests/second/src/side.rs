@@ -21,7 +21,8 @@ impl Default for Side {
 
 impl Side {
     /// "At the start: shape 2 3 8, rights `gprc`, lent sizes 48, 6, 2, every length and byte of
-    /// the book 0, logical end 1 1 1, record not open, no moods, position 1 1 1, no answers."
+    /// the book 0, logical end 1 1 1, record not open, no moods, position 1 1 1, no answers." The
+    /// choice of C-14 "is 0 at the start".
     pub fn new() -> Side {
         let file = File {
             opened: false,
@@ -40,6 +41,7 @@ impl Side {
                 reset: true,
                 compress: true,
             },
+            split: false,
         };
         Side {
             file,

@@ -21,6 +21,13 @@ pub struct Reply {
     pub suggested: Option<u8>,
 }
 
+/// What follows a line end that is answered 0: good line's own newline, or refusal 16 (C-14).
+#[derive(Clone, Copy, PartialEq, Eq, Debug)]
+enum LineEndDefault {
+    Newline,
+    Refusal,
+}
+
 /// One call at work: the record, the book, the lent row, and the counts of events signalled
 /// and answers taken.
 pub struct Work<'w, 'b> {
@@ -201,22 +208,46 @@ fn good_page(work: &mut Work, mood: Mood) -> Result<Option<Signalled>, Ending> {
     }
 }
 
-/// "Good line: good page, then signal line end while c exceeds the line length. Default:
-/// newline."
-fn good_line(work: &mut Work, mood: Mood) -> Result<Option<Signalled>, Ending> {
+/// Does what follows a line end that is answered 0. The refusal comes "with its event".
+fn follow_line_end(
+    work: &mut Work,
+    default: LineEndDefault,
+    signalled: Signalled,
+) -> Result<(), Ending> {
+    match default {
+        LineEndDefault::Newline => newline(work),
+        LineEndDefault::Refusal => Err(Ending::in_event(Refusal::DoesNotFit, signalled)),
+    }
+}
+
+/// Good line with the default that its caller has at a line end. Those of the file's end and the
+/// page's end are the same for all.
+fn good_line_with(
+    work: &mut Work,
+    mood: Mood,
+    default: LineEndDefault,
+) -> Result<Option<Signalled>, Ending> {
     loop {
         let ended = good_page(work, mood)?;
         if ended.is_some() || !line_ended(work) {
             return Ok(ended);
         }
-        if !signal(work, Event::LineEnd, Some(mood))?.is_true {
-            newline(work)?;
+        let reply = signal(work, Event::LineEnd, Some(mood))?;
+        if !reply.is_true {
+            follow_line_end(work, default, reply.signalled)?;
         }
     }
 }
 
+/// "Good line: good page, then signal line end while c exceeds the line length. Default:
+/// newline."
+fn good_line(work: &mut Work, mood: Mood) -> Result<Option<Signalled>, Ending> {
+    good_line_with(work, mood, LineEndDefault::Newline)
+}
+
 /// Good file's default where it was answered 0: refusal 14 for a logical end, 15 for a physical
-/// end. A page end and a line end never come here: their defaults are newpage and newline.
+/// end. A page end and a line end never come here: their defaults are newpage, and newline or
+/// refusal 16.
 fn refused_at_end(ended: Option<Signalled>) -> Result<(), Ending> {
     match ended {
         None => Ok(()),
@@ -362,7 +393,8 @@ pub fn backspace(work: &mut Work) -> Result<(), Ending> {
 }
 
 /// "Open and reset set read mood to 'put not possible', write mood to 'get not possible',
-/// position (1,1,1)."
+/// position (1,1,1)." The choice of C-14 is open's alone: "Reset, alone or as an answer, leaves
+/// the choice."
 pub fn start_again(file: &mut File) {
     file.read_mood = !file.rights.put;
     file.write_mood = !file.rights.get;
@@ -463,10 +495,10 @@ fn signal_character(work: &mut Work, mood: Mood, suggested: u8) -> Result<(u8, S
 
 /// "Put a character: good line; a byte outside 32 to 126 signals character, suggesting a blank
 /// (default refusal 8; else the suggestion is tried the same way from the start)."
-pub fn put_character(work: &mut Work, byte: u8) -> Result<(), Ending> {
+fn put_character_with(work: &mut Work, byte: u8, default: LineEndDefault) -> Result<(), Ending> {
     let mut tried = byte;
     loop {
-        let ended = good_line(work, Mood::Writing)?;
+        let ended = good_line_with(work, Mood::Writing, default)?;
         refused_at_end(ended)?;
         if is_proper(tried) {
             store_and_pass(work, tried);
@@ -476,10 +508,21 @@ pub fn put_character(work: &mut Work, byte: u8) -> Result<(), Ending> {
     }
 }
 
-/// "Put a string: its characters in turn; an empty one only turns the mood."
+/// A character put alone, or of an integer: both keep the newline under either choice (C-14).
+pub fn put_character(work: &mut Work, byte: u8) -> Result<(), Ending> {
+    put_character_with(work, byte, LineEndDefault::Newline)
+}
+
+/// "Put a string: its characters in turn; an empty one only turns the mood." C-14: "The default
+/// at line end during put of a string becomes a refusal: what was stored stays, and nothing more
+/// is stored", unless the record has the Report's split. No answer changes that choice.
 pub fn put_string(work: &mut Work, text: &[u8]) -> Result<(), Ending> {
+    let default = match work.file.split {
+        true => LineEndDefault::Newline,
+        false => LineEndDefault::Refusal,
+    };
     for &byte in text {
-        put_character(work, byte)?;
+        put_character_with(work, byte, default)?;
     }
     Ok(())
 }
@@ -507,14 +550,17 @@ fn find_room_for_integer(work: &mut Work) -> Result<(), Ending> {
 }
 
 /// "Put an integer: the text is whole(value, 11). [Find room.] Then a blank when c is not 1,
-/// and the text."
+/// and the text." "Integers keep the newline", which the room is found with.
 pub fn put_integer(work: &mut Work, value: i32) -> Result<(), Ending> {
     let text = whole(value, 11);
     find_room_for_integer(work)?;
     if work.file.position.character != 1 {
         put_character(work, b' ')?;
     }
-    put_string(work, &text)
+    for byte in text {
+        put_character(work, byte)?;
+    }
+    Ok(())
 }
 
 /// "whole(v, w): w = 0, shortest digits with '-' when negative. Otherwise |w| characters,

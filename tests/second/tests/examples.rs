@@ -1,8 +1,10 @@
-//! The examples E1 to E11 of document 01, the program `shown`, and points easily misread.
+//! The examples E1 to E11 of document 01, the program `shown`, and points easily misread. C-14:
+//! "E1 to E5 are kept under [the Report's split] and E1 gains a twin."
 
 use second::book::{Book, File, Position, Rights, Shape};
 use second::calls;
 use second::calls::CallResult;
+use second::refusals::{Event, Signalled};
 use second::replay::replay;
 
 const NEWLINE: u32 = 0x2000_0000;
@@ -37,6 +39,7 @@ impl Owner {
                     reset: true,
                     compress: true,
                 },
+                split: false,
             },
             text: vec![0; 6 * characters as usize],
             line_lengths: vec![0; 6],
@@ -44,6 +47,14 @@ impl Owner {
             end: Position::START,
         };
         assert_eq!(owner.call(calls::establish).number, 0);
+        owner
+    }
+
+    /// The same book of lines of 8, with the Report's split chosen.
+    fn splitting() -> Owner {
+        let mut owner = Owner::established(8);
+        let chosen = owner.call(|file, book| calls::choose(file, book, true));
+        assert_eq!(chosen.number, 0);
         owner
     }
 
@@ -77,7 +88,7 @@ impl Owner {
     }
 
     fn after_e1() -> Owner {
-        let mut owner = Owner::established(8);
+        let mut owner = Owner::splitting();
         owner.put("abcdefghij");
         owner
     }
@@ -96,12 +107,27 @@ fn place(page: u32, line: u32, character: u32) -> Position {
 
 #[test]
 fn e1_put_over_a_line_end() {
-    let mut owner = Owner::established(8);
+    let mut owner = Owner::splitting();
     let result = owner.put("abcdefghij");
     assert_eq!((result.number, result.events, result.taken), (0, 1, 0));
     assert_eq!(&owner.text[..10], b"abcdefghij");
     assert_eq!(owner.file.position, place(1, 2, 3));
     assert_eq!(owner.end, place(1, 2, 3));
+}
+
+#[test]
+fn the_twin_of_e1_is_refused_at_the_line_end() {
+    let mut owner = Owner::established(8);
+    let result = owner.put("abcdefghij");
+    assert_eq!((result.number, result.events, result.taken), (16, 1, 0));
+    let signalled = Signalled {
+        event: Event::LineEnd,
+        position: place(1, 1, 9),
+    };
+    assert_eq!(result.signalled, Some(signalled));
+    assert_eq!(&owner.text[..10], b"abcdefgh\0\0");
+    assert_eq!(owner.file.position, place(1, 1, 9));
+    assert_eq!(owner.end, place(1, 1, 9));
 }
 
 #[test]
@@ -214,6 +240,13 @@ fn the_program_shown() {
     assert!(shown(&["S", "x", "S \u{1}"]).starts_with("refused 6\nrefused 6\nrefused 8\n"));
 }
 
+#[test]
+fn the_program_shown_refuses_a_text_that_is_too_long() {
+    let output = shown(&["S permit all", "N", "S deny"]);
+    let expected = "refused 16\n1 1 8 permit a\n1 2 4 deny\nend 1 2 5\n";
+    assert_eq!(output, expected);
+}
+
 /// What a script writes, as text.
 fn play(script: &str) -> String {
     String::from_utf8_lossy(&replay(script.as_bytes())).into_owned()
@@ -221,18 +254,19 @@ fn play(script: &str) -> String {
 
 #[test]
 fn the_example_of_replay() {
-    let output = play("establish\nputs 6162636465666768696a\nreset\ngets 4 -");
-    let expected = "establish 0 0 0 0 0 - - | 1 0 1 1 1 1 | 1 1 1 | -\n\
-        puts 0 1 0 0 0 - - | 1 0 1 1 2 3 | 1 2 3 | -\n\
-        reset 0 0 0 0 0 - - | 1 0 0 1 1 1 | 1 2 3 | -\n\
-        gets 0 0 0 4 4 - 61626364 | 1 1 0 1 1 5 | 1 2 3 | -\n";
+    let output = play("establish\nsplit\nputs 6162636465666768696a\nreset\ngets 4 -");
+    let expected = "establish 0 0 0 0 0 - - | 1 0 1 1 1 1 0 | 1 1 1 | -\n\
+        split 0 0 0 0 0 - - | 1 0 1 1 1 1 1 | 1 1 1 | -\n\
+        puts 0 1 0 0 0 - - | 1 0 1 1 2 3 1 | 1 2 3 | -\n\
+        reset 0 0 0 0 0 - - | 1 0 0 1 1 1 1 | 1 2 3 | -\n\
+        gets 0 0 0 4 4 - 61626364 | 1 1 0 1 1 5 1 | 1 2 3 | -\n";
     assert_eq!(output, expected);
 }
 
 #[test]
 fn good_file_is_tested_again_after_a_default_newpage() {
-    let output = play("shape 1 1 1\nlend 1 1 1\nestablish\nputs 6161");
-    let expected = "puts 15 3 0 0 0 - - | 1 0 1 2 1 1 | 2 1 1 | physical 2 1 1\n";
+    let output = play("shape 1 1 1\nlend 1 1 1\nestablish\nsplit\nputs 6161");
+    let expected = "puts 15 3 0 0 0 - - | 1 0 1 2 1 1 1 | 2 1 1 | physical 2 1 1\n";
     assert!(output.ends_with(expected));
 }
 
@@ -240,7 +274,7 @@ fn good_file_is_tested_again_after_a_default_newpage() {
 fn a_reader_at_the_end_of_a_full_last_line_hears_logical_end() {
     let scene = "shape 1 1 2\nlend 2 1 1\nrights g\nlines 0 02\npages 0 01\nend 1 1 3\n";
     let output = play(&format!("{scene}record 1 1 0 1 1 3\ngets 1 -"));
-    assert_eq!(output, "gets 0 1 0 3 0 - ee | 1 1 0 1 1 3 | 1 1 3 | -\n");
+    assert_eq!(output, "gets 0 1 0 3 0 - ee | 1 1 0 1 1 3 0 | 1 1 3 | -\n");
 }
 
 #[test]
@@ -252,9 +286,10 @@ fn set_asks_beyond_before_bounds() {
 
 #[test]
 fn a_row_serves_one_call_and_bad_lines_leave_it() {
-    let output = play("establish\nrow 80000000\ndump\n puts\nputs 616161616161616161\nputs 61");
-    assert!(output.contains("bad line 4\nputs 11 1 1 "));
-    assert!(output.ends_with("puts 0 1 0 0 0 - - | 1 0 1 1 2 2 | 1 2 2 | -\n"));
+    let start = "establish\nsplit\nrow 80000000\ndump\n puts\n";
+    let output = play(&format!("{start}puts 616161616161616161\nputs 61"));
+    assert!(output.contains("bad line 5\nputs 11 1 1 "));
+    assert!(output.ends_with("puts 0 1 0 0 0 - - | 1 0 1 1 2 2 1 | 1 2 2 | -\n"));
 }
 
 #[test]

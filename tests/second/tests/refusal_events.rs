@@ -1,5 +1,6 @@
 //! C-12: the event that a refusal ended in, and where it was signalled, by scripts and by a call
-//! itself.
+//! itself. Strings that go over a line end by default have the Report's split chosen; without it
+//! they are refused 16 there (C-14).
 
 use second::book::{Book, Position};
 use second::calls;
@@ -42,14 +43,15 @@ fn reader(text: &str, end: &str) -> String {
     )
 }
 
-/// A fresh book 1·1·2 with all its places put, and the writer after them.
-const FULL: &str = "shape 1 1 2\nlend 2 1 1\nestablish\nputs 6162\n";
+/// A fresh book 1·1·2 with all its places put, and the writer after them, with the split.
+const FULL: &str = "shape 1 1 2\nlend 2 1 1\nestablish\nsplit\nputs 6162\n";
 
 #[test]
 fn the_worked_example() {
-    let output = play("shape 1 1 1\nlend 1 1 1\nestablish\nputs 6161");
-    let expected = "establish 0 0 0 0 0 - - | 1 0 1 1 1 1 | 1 1 1 | -\n\
-        puts 15 3 0 0 0 - - | 1 0 1 2 1 1 | 2 1 1 | physical 2 1 1\n";
+    let output = play("shape 1 1 1\nlend 1 1 1\nestablish\nsplit\nputs 6161");
+    let expected = "establish 0 0 0 0 0 - - | 1 0 1 1 1 1 0 | 1 1 1 | -\n\
+        split 0 0 0 0 0 - - | 1 0 1 1 1 1 1 | 1 1 1 | -\n\
+        puts 15 3 0 0 0 - - | 1 0 1 2 1 1 1 | 2 1 1 | physical 2 1 1\n";
     assert_eq!(output, expected);
 }
 
@@ -96,8 +98,10 @@ fn page_end() {
 fn line_end() {
     let script = format!("{FULL}row 80000000\nputs 63");
     assert_eq!(told(&script), tells(11, "line 1 1 3"));
-    let got = "establish\nputs 6162636465666768696a\nreset\nrow 80000000\ngets 20 -";
+    let got = "establish\nsplit\nputs 6162636465666768696a\nreset\nrow 80000000\ngets 20 -";
     assert_eq!(told(got), tells(11, "line 1 1 9"));
+    let does_not_fit = format!("{FULL}fit\nputs 63");
+    assert_eq!(told(&does_not_fit), tells(16, "line 1 1 3"));
 }
 
 #[test]
@@ -113,7 +117,7 @@ fn a_character_put_is_told_before_it_is_passed() {
     assert_eq!(told(second), tells(8, "character 1 1 2"));
     let jumped = "establish\nrow 80000000\nputs 617f";
     assert_eq!(told(jumped), tells(11, "character 1 1 2"));
-    let next_line = "establish\nputs 616161616161616101";
+    let next_line = "establish\nsplit\nputs 616161616161616101";
     assert_eq!(told(next_line), tells(8, "character 1 2 1"));
 }
 
@@ -166,7 +170,7 @@ fn the_innermost_event_is_told() {
 
 #[test]
 fn a_set_in_an_answer_tells_the_logical_end() {
-    let scene = "rights gps\nestablish\nputs 6162636465666768696a\nset 1 1 9\n";
+    let scene = "rights gps\nestablish\nsplit\nputs 6162636465666768696a\nset 1 1 9\n";
     let set = format!("{scene}row 40100401\nputs 63");
     assert_eq!(ended(&set), (14, 2, 1, "logical 1 2 3".to_string()));
     let mended = format!("{scene}row 40100401 10000000 80000000\nputs 63");
@@ -215,7 +219,7 @@ fn refusals_before_work_tell_none() {
 #[test]
 fn stops_tell_none() {
     let scene = reader("616263", "1 1 4");
-    let line_end = "establish\nputs 6162636465666768696a\nreset\ngets 20 -";
+    let line_end = "establish\nsplit\nputs 6162636465666768696a\nreset\ngets 20 -";
     assert_eq!(ended(line_end), (0, 1, 0, "-".to_string()));
     let logical_end = format!("{scene}gets 20 -");
     assert_eq!(ended(&logical_end), (0, 1, 0, "-".to_string()));

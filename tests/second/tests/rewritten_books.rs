@@ -74,9 +74,12 @@ fn the_next_nights_find_the_whole_book() {
 
 #[test]
 fn the_lengths_hold_for_the_next_character_of_the_call() {
-    let script = format!("{SHORT_NIGHT}reset\nputs 41424344454647484950");
+    let script = format!("{SHORT_NIGHT}reset\nsplit\nputs 41424344454647484950");
     assert_eq!(last_call(&script), done(1, "1 2 3"));
     assert_eq!(lengths(&script), are("080808080808", "0303"));
+    let without_split = script.replace("split", "fit");
+    assert_eq!(last_call(&without_split), (16, 1, "1 1 9".to_string()));
+    assert_eq!(lengths(&without_split), are("080808080808", "0303"));
 }
 
 #[test]
@@ -195,7 +198,7 @@ fn a_book_with_set_keeps_its_end_and_its_lengths() {
 fn what_came_back_is_not_shown() {
     let script = format!("{SHORT_NIGHT}reset\nputc 5a\n");
     let first = play(&format!("{script}view 1 1 2d"));
-    assert!(first.ends_with("view 0 0 0 0 1 - 5a | 1 0 1 1 1 2 | 1 1 2 | -\n"));
+    assert!(first.ends_with("view 0 0 0 0 1 - 5a | 1 0 1 1 1 2 0 | 1 1 2 | -\n"));
     let second = format!("{script}view 1 2 2d");
     assert_eq!(last_call(&second), (6, 0, "1 1 2".to_string()));
 }

@@ -50,11 +50,11 @@ fn two_texts(one: &str, other: &str, entries: usize) -> String {
 fn the_worked_example() {
     let output =
         play("establish\nputs 616263646566\nswap\nestablish\nputs 61625864595a39\ndiffer 3");
-    let expected = "establish 0 0 0 0 0 - - | 1 0 1 1 1 1 | 1 1 1 | -\n\
-        puts 0 0 0 0 0 - - | 1 0 1 1 1 7 | 1 1 7 | -\n\
-        establish 0 0 0 0 0 - - | 1 0 1 1 1 1 | 1 1 1 | -\n\
-        puts 0 0 0 0 0 - - | 1 0 1 1 1 8 | 1 1 8 | -\n\
-        differ 0 0 0 0 2 - 0101030301010507eeeeeeee | 1 0 1 1 1 8 | 1 1 8 | -\n";
+    let expected = "establish 0 0 0 0 0 - - | 1 0 1 1 1 1 0 | 1 1 1 | -\n\
+        puts 0 0 0 0 0 - - | 1 0 1 1 1 7 0 | 1 1 7 | -\n\
+        establish 0 0 0 0 0 - - | 1 0 1 1 1 1 0 | 1 1 1 | -\n\
+        puts 0 0 0 0 0 - - | 1 0 1 1 1 8 0 | 1 1 8 | -\n\
+        differ 0 0 0 0 2 - 0101030301010507eeeeeeee | 1 0 1 1 1 8 0 | 1 1 8 | -\n";
     assert_eq!(output, expected);
 }
 
@@ -62,8 +62,8 @@ fn the_worked_example() {
 fn the_first_side_is_told_after_the_bars() {
     let script = "establish\nputs 6162\nswap\nopen\ndiffer 1\nswap\ndiffer 0";
     let output = play(script);
-    assert!(output.contains("\ndiffer 0 0 0 0 1 - 01010102 | 1 0 0 1 1 1 | 1 1 1 | -\n"));
-    assert!(output.ends_with("\ndiffer 12 0 0 0 0 - - | 1 0 1 1 1 3 | 1 1 3 | -\n"));
+    assert!(output.contains("\ndiffer 0 0 0 0 1 - 01010102 | 1 0 0 1 1 1 0 | 1 1 1 | -\n"));
+    assert!(output.ends_with("\ndiffer 12 0 0 0 0 - - | 1 0 1 1 1 3 0 | 1 1 3 | -\n"));
 }
 
 #[test]
@@ -187,7 +187,7 @@ fn a_swap_leaves_the_row_and_a_look_uses_it_up() {
     let output = play(&format!("{start}row 80000000\nswap\n{nine}"));
     assert!(output.contains("\nputs 11 1 1 "));
     let output = play(&format!("{start}row 80000000\ndiffer 0\n{nine}"));
-    assert!(output.contains("\nputs 0 1 0 "));
+    assert!(output.contains("\nputs 16 1 0 "));
     let output = play(&format!("{start}row f0000000\ndiffer 0"));
     assert!(output.contains("\ndiffer 0 0 0 0 0 - - "));
 }
@@ -195,7 +195,7 @@ fn a_swap_leaves_the_row_and_a_look_uses_it_up() {
 #[test]
 fn a_swap_exchanges_everything_else() {
     let scene = "shape 1 1 2\nlend 2 1 1\nrights g\nlines 0 02\npages 0 01\ntext 0 6162\n\
-        end 1 1 3\nrecord 1 1 0 1 1 2\n";
+        end 1 1 3\nrecord 1 1 0 1 1 2 1\n";
     let look = "dump\nspace\nopen\nputs 61\nreset\n";
     let untouched = play(look);
     let set = play(&format!("{scene}{look}"));
@@ -277,6 +277,7 @@ fn reader(lines: u32, characters: u32) -> File {
             get: true,
             ..Rights::default()
         },
+        split: false,
     }
 }
 

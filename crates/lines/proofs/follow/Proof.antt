@@ -1,11 +1,11 @@
-use Rattle.lines.proofs.Good.{page-good-facts}
-use Rattle.laws.proofs.Lines.{follow-newline}
-use Rattle.laws.proofs.Validity.{near-at}
-use Rattle.rules.specs.Book.{state}
-use native.Mathlib.Omega.{arith}
-use mathlib.Core.Bool.{true}
-use mathlib.Core.Path.{sym, _∙_}
 use borrow.Author.Tests.{not-true, not-false}
+use mathlib.Core.Path.{sym, _∙_}
+use mathlib.Core.Bool.{true}
+use native.Mathlib.Omega.{arith}
+use Rattle.rules.specs.Book.{state}
+use Rattle.laws.proofs.Validity.{near-at}
+use Rattle.laws.proofs.Lines.{follow-newline}
+use Rattle.lines.proofs.Good.{page-good-facts}
 use borrow.Author.Needs.{needs}
 use Rattle.lines.proofs.follow.Statement.{statement}
 use Rattle.lines.proofs.follow.Tie as tie
@@ -28,8 +28,8 @@ same-length-3 c = search needs
 returns : tie.Need-returns
 returns c = search needs
 
-follow-requires-2 : tie.Need-follow-requires-2
-follow-requires-2 c κs = search needs
+follow-writing-requires : tie.Need-follow-writing-requires
+follow-writing-requires c κs = (c .before .before .before .before .before .before .before .before .before .before .before .pre, (sym (c .before .before .before .before .before .before .kind-of .ensures) ∙ c .before .before .before .before .before .if1 .left, not-true _ (c .before .before .before .if2 .taken)))
 
 same-length-4 : tie.Need-same-length-4
 same-length-4 c = search needs
@@ -46,8 +46,8 @@ returns-2 c = search needs
 page-good-requires : tie.Need-page-good-requires
 page-good-requires c κs = search needs
 
-follow-requires-3 : tie.Need-follow-requires-3
-follow-requires-3 c κs = search needs
+follow-requires-2 : tie.Need-follow-requires-2
+follow-requires-2 c κs = search needs
 
 same-length-7 : tie.Need-same-length-7
 same-length-7 c = search needs
@@ -64,8 +64,8 @@ returns-3 c = search needs
 on-end-line-requires : tie.Need-on-end-line-requires
 on-end-line-requires c κs = search needs
 
-follow-requires-4 : tie.Need-follow-requires-4
-follow-requires-4 c κs = search needs
+follow-requires-3 : tie.Need-follow-requires-3
+follow-requires-3 c κs = search needs
 
 same-length-10 : tie.Need-same-length-10
 same-length-10 c = search needs
@@ -107,19 +107,19 @@ follow-spec =
     same-length-2
     same-length-3
     returns
-    follow-requires-2
+    follow-writing-requires
     same-length-4
     same-length-5
     same-length-6
     returns-2
     page-good-requires
-    follow-requires-3
+    follow-requires-2
     same-length-7
     same-length-8
     same-length-9
     returns-3
     on-end-line-requires
-    follow-requires-4
+    follow-requires-3
     same-length-10
     same-length-11
     same-length-12

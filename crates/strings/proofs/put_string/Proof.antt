@@ -1,3 +1,4 @@
+use mathlib.Core.Bool.{true}
 use borrow.Author.Needs.{needs}
 use borrow.Author.Tests.{not-true, not-false}
 use mathlib.Core.Path.{_≡_, refl, sym, _∙_}
@@ -18,7 +19,7 @@ use Rattle.strings.proofs.put_string.Statement.{statement}
 use Rattle.strings.proofs.put_string.Tie as tie
 
 abbrev Inv-loop : tie.InvT-loop
-Inv-loop bytes text₀ lines₀ pages₀ row here₀ i₀ text lines pages here i = ((putCharacters row bytes (state here₀ lines₀ pages₀) text₀ ≡ putCharacters row (drop i bytes) (state here lines pages) text) × Ready row (Action.putCharacter 0) (state here lines pages) × (i ≤ length bytes)) × (length text ≡ length text₀) × (length lines ≡ length lines₀) × (length pages ≡ length pages₀)
+Inv-loop bytes text₀ lines₀ pages₀ row here₀ i₀ text lines pages here i = ((putCharacters row true bytes (state here₀ lines₀ pages₀) text₀ ≡ putCharacters row true (drop i bytes) (state here lines pages) text) × Ready row (Action.putCharacter true 0) (state here lines pages) × (i ≤ length bytes)) × (length text ≡ length text₀) × (length lines ≡ length lines₀) × (length pages ≡ length pages₀)
 
 abbrev μ-loop : tie.MeasureT-loop
 μ-loop bytes text₀ lines₀ pages₀ row here₀ i₀ text lines pages here i = length bytes - i
@@ -39,13 +40,13 @@ goes-on-requires : tie.Need-goes-on-requires Inv-loop μ-loop
 goes-on-requires c κs = search needs
 
 same-length : tie.Need-same-length Inv-loop μ-loop
-same-length c = c .before .before .before .before .before .before .before .before .try-character .kept .1 .1 .0 ∙ c .before .before .before .before .before .before .before .before .before .before .before .before .before .before .before .before .before .before .before .loop .inv .1
+same-length c = c .before .before .before .before .before .before .before .before .try-character .kept .1 .1 .1 .0 ∙ c .before .before .before .before .before .before .before .before .before .before .before .before .before .before .before .before .before .before .before .loop .inv .1
 
 same-length-2 : tie.Need-same-length-2 Inv-loop μ-loop
-same-length-2 c = c .before .before .before .before .before .before .before .before .try-character .kept .1 .1 .1 .0 ∙ c .before .before .before .before .before .before .before .before .before .before .before .before .before .before .before .before .before .before .before .loop .inv .2
+same-length-2 c = c .before .before .before .before .before .before .before .before .try-character .kept .1 .1 .1 .1 .0 ∙ c .before .before .before .before .before .before .before .before .before .before .before .before .before .before .before .before .before .before .before .loop .inv .2
 
 same-length-3 : tie.Need-same-length-3 Inv-loop μ-loop
-same-length-3 c = c .before .before .before .before .before .before .before .before .try-character .kept .1 .1 .1 .1 .0 ∙ c .before .before .before .before .before .before .before .before .before .before .before .before .before .before .before .before .before .before .before .loop .inv .3
+same-length-3 c = c .before .before .before .before .before .before .before .before .try-character .kept .1 .1 .1 .1 .1 .0 ∙ c .before .before .before .before .before .before .before .before .before .before .before .before .before .before .before .before .before .before .before .loop .inv .3
 
 returns : tie.Need-returns Inv-loop μ-loop
 returns c = hands-on (c .before .before .before .before .before .before .before .before .try-character .result) (c .before .before .before .before .before .before .before .before .before .before .before .before .before .before .before .before .before .before .before .loop .inv .0 .0 ∙ put-halts (put-one (c .before .before .before .before .before .before .before .before .before .before .before .before .before .before .before .before .before .before .before .before .before .before .before .before .before .args .row .now) (c .before .before .before .before .before .before .before .before .before .before .before .before .before .before .before .before .before .before .before .before .before .before .before .before .before .args .bytes .now) (c .before .before .before .before .before .before .before .before .before .before .before .before .before .before .before .before .before .before .before .loop .i) (state (c .before .before .before .before .before .before .before .before .before .before .before .before .before .before .before .before .before .before .before .loop .here) (c .before .before .before .before .before .before .before .before .before .before .before .before .before .before .before .before .before .before .before .loop .lines) (c .before .before .before .before .before .before .before .before .before .before .before .before .before .before .before .before .before .before .before .loop .pages)) (c .before .before .before .before .before .before .before .before .before .before .before .before .before .before .before .before .before .before .before .loop .text) (c .before .before .before .before .before .before .before .before .before .before .before .before .before .before .before .before .before .before .before .loop .inv .0 .1) (c .before .before .before .before .before .before .before .before .before .before .before .before .before .before .before .before .before .before .loop-test .taken) refl (c .before .before .before .before .before .before .before .before .try-character .result) _ _ _ (c .before .before .before .before .before .before .before .before .try-character .ensures)) (sym (c .before .goes-on .ensures) ∙ not-true _ (c .if2 .taken))) (sym (c .before .goes-on .ensures) ∙ not-true _ (c .if2 .taken))
@@ -57,7 +58,7 @@ loop-less : tie.Need-loop-less Inv-loop μ-loop
 loop-less c = omega (arith, c .before .before .before .before .before .before .before .before .before .before .before .before .before .before .before .before .before .before .before .loop-test .taken)
 
 loop-again : tie.Need-loop-again Inv-loop μ-loop
-loop-again c = let x = (put-one (c .before .before .before .before .before .before .before .before .before .before .before .before .before .before .before .before .before .before .before .before .before .before .before .before .before .before .args .row .now) (c .before .before .before .before .before .before .before .before .before .before .before .before .before .before .before .before .before .before .before .before .before .before .before .before .before .before .args .bytes .now) (c .before .before .before .before .before .before .before .before .before .before .before .before .before .before .before .before .before .before .before .before .loop .i) (state (c .before .before .before .before .before .before .before .before .before .before .before .before .before .before .before .before .before .before .before .before .loop .here) (c .before .before .before .before .before .before .before .before .before .before .before .before .before .before .before .before .before .before .before .before .loop .lines) (c .before .before .before .before .before .before .before .before .before .before .before .before .before .before .before .before .before .before .before .before .loop .pages)) (c .before .before .before .before .before .before .before .before .before .before .before .before .before .before .before .before .before .before .before .before .loop .text) (c .before .before .before .before .before .before .before .before .before .before .before .before .before .before .before .before .before .before .before .before .loop .inv .0 .1) (c .before .before .before .before .before .before .before .before .before .before .before .before .before .before .before .before .before .before .before .loop-test .taken) refl (c .before .before .before .before .before .before .before .before .before .try-character .result) _ _ _ (c .before .before .before .before .before .before .before .before .before .try-character .ensures)) in let g = (sym (c .before .before .goes-on .ensures) ∙ not-false _ (c .before .if2 .left)) in ((c .before .before .before .before .before .before .before .before .before .before .before .before .before .before .before .before .before .before .before .before .loop .inv .0 .0 ∙ put-goes x g, x .ready g, x .within), c .before .before .before .before .before .before .before .before .before .try-character .kept .1 .1 .0 ∙ c .before .before .before .before .before .before .before .before .before .before .before .before .before .before .before .before .before .before .before .before .loop .inv .1, c .before .before .before .before .before .before .before .before .before .try-character .kept .1 .1 .1 .0 ∙ c .before .before .before .before .before .before .before .before .before .before .before .before .before .before .before .before .before .before .before .before .loop .inv .2, c .before .before .before .before .before .before .before .before .before .try-character .kept .1 .1 .1 .1 .0 ∙ c .before .before .before .before .before .before .before .before .before .before .before .before .before .before .before .before .before .before .before .before .loop .inv .3)
+loop-again c = let x = (put-one (c .before .before .before .before .before .before .before .before .before .before .before .before .before .before .before .before .before .before .before .before .before .before .before .before .before .before .args .row .now) (c .before .before .before .before .before .before .before .before .before .before .before .before .before .before .before .before .before .before .before .before .before .before .before .before .before .before .args .bytes .now) (c .before .before .before .before .before .before .before .before .before .before .before .before .before .before .before .before .before .before .before .before .loop .i) (state (c .before .before .before .before .before .before .before .before .before .before .before .before .before .before .before .before .before .before .before .before .loop .here) (c .before .before .before .before .before .before .before .before .before .before .before .before .before .before .before .before .before .before .before .before .loop .lines) (c .before .before .before .before .before .before .before .before .before .before .before .before .before .before .before .before .before .before .before .before .loop .pages)) (c .before .before .before .before .before .before .before .before .before .before .before .before .before .before .before .before .before .before .before .before .loop .text) (c .before .before .before .before .before .before .before .before .before .before .before .before .before .before .before .before .before .before .before .before .loop .inv .0 .1) (c .before .before .before .before .before .before .before .before .before .before .before .before .before .before .before .before .before .before .before .loop-test .taken) refl (c .before .before .before .before .before .before .before .before .before .try-character .result) _ _ _ (c .before .before .before .before .before .before .before .before .before .try-character .ensures)) in let g = (sym (c .before .before .goes-on .ensures) ∙ not-false _ (c .before .if2 .left)) in ((c .before .before .before .before .before .before .before .before .before .before .before .before .before .before .before .before .before .before .before .before .loop .inv .0 .0 ∙ put-goes x g, x .ready g, x .within), c .before .before .before .before .before .before .before .before .before .try-character .kept .1 .1 .1 .0 ∙ c .before .before .before .before .before .before .before .before .before .before .before .before .before .before .before .before .before .before .before .before .loop .inv .1, c .before .before .before .before .before .before .before .before .before .try-character .kept .1 .1 .1 .1 .0 ∙ c .before .before .before .before .before .before .before .before .before .before .before .before .before .before .before .before .before .before .before .before .loop .inv .2, c .before .before .before .before .before .before .before .before .before .try-character .kept .1 .1 .1 .1 .1 .0 ∙ c .before .before .before .before .before .before .before .before .before .before .before .before .before .before .before .before .before .before .before .before .loop .inv .3)
 
 store-some-requires : tie.Need-store-some-requires Inv-loop μ-loop
 store-some-requires c κs = (here-small (c .before .before .before .before .before .before .before .before .before .loop .inv .0 .1 .valid), (run-short (c .before .before .before .before .before .before .before .before .before .loop .inv .0 .1 .valid) (c .before .before .before .before .run-length .ensures .room) (omega arith), run-there (c .before .before .before .before .before .before .before .before .before .loop .inv .0 .1 .valid) (c .before .before .before .before .run-length .ensures .room) (omega arith) (c .before .before .before .if1 .left) refl, omega (arith, c .before .before .before .before .run-length .ensures .left, c .before .before .before .before .before .before .before .before .loop-test .taken)))
@@ -84,7 +85,7 @@ same-length-6 : tie.Need-same-length-6 Inv-loop μ-loop
 same-length-6 c = c .before .before .loop .inv .3
 
 returns-2 : tie.Need-returns-2 Inv-loop μ-loop
-returns-2 c = outcome-is (state (c .before .before .loop .here) (c .before .before .loop .lines) (c .before .before .loop .pages)) (c .before .before .loop .text) (c .finish .ensures) ∙ sym (c .before .before .loop .inv .0 .0 ∙ left-none (c .before .before .before .before .before .before .before .before .args .row .now) (c .before .before .before .before .before .before .before .before .args .bytes .now) (c .before .before .loop .i) (state (c .before .before .loop .here) (c .before .before .loop .lines) (c .before .before .loop .pages)) (c .before .before .loop .text) (c .before .before .loop .inv .0 .1) (omega (arith, c .before .loop-test .left)))
+returns-2 c = outcome-is (state (c .before .before .loop .here) (c .before .before .loop .lines) (c .before .before .loop .pages)) (c .before .before .loop .text) (c .finish .ensures) ∙ sym (c .before .before .loop .inv .0 .0 ∙ left-none (c .before .before .before .before .before .before .before .before .args .row .now) (c .before .before .before .before .before .before .before .before .args .bytes .now) true (c .before .before .loop .i) (state (c .before .before .loop .here) (c .before .before .loop .lines) (c .before .before .loop .pages)) (c .before .before .loop .text) (c .before .before .loop .inv .0 .1) (omega (arith, c .before .loop-test .left)))
 
 pub put-string-spec : {M : Type 1} → statement M
 put-string-spec =

@@ -33,6 +33,7 @@ static void records(void) {
     FIELD(transput_file, opened);
     FIELD(transput_file, reading);
     FIELD(transput_file, writing);
+    FIELD(transput_file, split);
     FIELD(transput_file, rights);
 }
 
@@ -84,6 +85,7 @@ static void numbers(void) {
     CONSTANT(TRANSPUT_OUTPUT_TOO_SHORT);
     CONSTANT(TRANSPUT_LOGICAL_END_UNMENDED);
     CONSTANT(TRANSPUT_PHYSICAL_END_UNMENDED);
+    CONSTANT(TRANSPUT_STRING_DOES_NOT_FIT);
     CONSTANT(TRANSPUT_EVENT_NONE);
     CONSTANT(TRANSPUT_EVENT_LOGICAL_END);
     CONSTANT(TRANSPUT_EVENT_PHYSICAL_END);

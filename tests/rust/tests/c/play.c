@@ -130,7 +130,7 @@ static void print_position(const char *name, transput_position position) {
 
 static void print_side(const side *shown) {
     const transput_file *file = &shown->file;
-    printf("record %d %d %d\n", file->opened, file->reading, file->writing);
+    printf("record %d %d %d %d\n", file->opened, file->reading, file->writing, file->split);
     print_position("position", file->position);
     printf("shape %zu %zu %zu\n", file->shape.pages, file->shape.lines, file->shape.characters);
     printf("rights %d %d %d %d %d\n", file->rights.get, file->rights.put, file->rights.set, file->rights.reset,
@@ -191,6 +191,10 @@ static void scene_record(void) {
     first->file.reading = next_size(1) == 1;
     first->file.writing = next_size(1) == 1;
     first->file.position = next_position();
+    const char *choice = strtok(NULL, " ");
+    if (choice != NULL) {
+        first->file.split = strcmp(choice, "1") == 0;
+    }
 }
 
 static void scene_end(void) {
@@ -262,6 +266,14 @@ static void call_open(void) {
 
 static void call_close(void) {
     end_call(transput_close(RECORD, BOOK));
+}
+
+static void call_split(void) {
+    end_call(transput_choose(RECORD, true, BOOK));
+}
+
+static void call_fit(void) {
+    end_call(transput_choose(RECORD, false, BOOK));
 }
 
 static void call_reset(void) {
@@ -381,6 +393,8 @@ static const struct command {
     {"establish", call_establish, true},
     {"open", call_open, true},
     {"close", call_close, true},
+    {"split", call_split, true},
+    {"fit", call_fit, true},
     {"reset", call_reset, true},
     {"backspace", call_backspace, true},
     {"putc", call_put_character, true},

@@ -159,12 +159,13 @@ impl Stage {
                 lend_again(pages, &mut book.pages, *pages_size, |_| ());
             }
             Line::Rights(rights) => file.rights = rights_of(*rights),
-            Line::Record([opened, reading, writing], position) => {
+            Line::Record([opened, reading, writing], position, choice) => {
                 let (opened, reading, writing) = (*opened, *reading, *writing);
                 self.first.file = File {
                     opened,
                     reading,
                     writing,
+                    split: choice.unwrap_or(self.first.file.split),
                     position: self.position(*position),
                     ..self.first.file
                 };
