@@ -1,4 +1,6 @@
 // How a call that lends answers begins: the tests before work in their order, then what its kind of call needs.
+#![tactic(auto)]
+
 ghost use Rattle.std.specs.Prelude.{◌≡◌, length};
 ghost use Rattle.rules.specs.Book.{state};
 ghost use Rattle.begins.specs.Begin.{prepared_by, in_mood_by, may_set_by, lowest_by};

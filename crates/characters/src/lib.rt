@@ -1,4 +1,6 @@
 // Tests of characters, one and many: printable ones, terminators, and runs of those that signal nothing.
+#![tactic(auto)]
+
 ghost use Rattle.std.specs.Prelude.{◌≡◌, true, ◌-◌, ◌≤◌, length, take, drop};
 ghost use Rattle.rules.specs.Steps.{printable};
 ghost use Rattle.rules.specs.Calls.{one_of};

@@ -1,5 +1,7 @@
 // What the programs share: a line of output composed in a lent buffer, and the words, numbers and bytes of a line of input. Nothing
 // here can fail: what does not fit is left out, and what cannot be read is told apart.
+#![tactic(auto)]
+
 ghost use Rattle.std.specs.Prelude.{◌≡◌, ◌≤◌, ◌+◌, length};
 
 use libc::STDOUT_FILENO;
@@ -222,7 +224,7 @@ pub fn read_hex(word: &[u8], to: &mut [u8], at: usize) {
 }
 
 // A number that was read, where it is good.
-#[derive(Drop)]
+#[derive(Clone, Copy)]
 pub struct Decimal {
     pub good: bool,
     pub value: usize,

@@ -1,5 +1,7 @@
 // Plays two scripts, and lists where the books that they leave differ: a line for each span, with its page, its line, its first and last
 // character, and the two texts there.
+#![tactic(auto)]
+
 use libc::{STDERR_FILENO, STDOUT_FILENO};
 use scenes::{Scene, Side};
 
@@ -276,7 +278,7 @@ fn write_usage() {
 }
 
 // The scene that a script left, where the script could be read.
-#[derive(Drop)]
+#[derive(Clone, Copy)]
 struct Left {
     scene: Scene,
     there: bool,

@@ -1,4 +1,6 @@
 // Where two books differ: the spans of the shown texts, counted and listed. Each call answers every record, book and list.
+#![tactic(auto)]
+
 ghost use Rattle.std.specs.Prelude.{◌≡◌, true, [], ◌+◌, ◌≤◌, ◌^◌, max, T, length, take, drop};
 ghost use Rattle.rules.specs.Book.{state, all_fits};
 ghost use Rattle.rules.specs.Calls.{book};
@@ -69,7 +71,7 @@ pub fn note(
 }
 
 // The spans counted so far, and the place to go on from.
-#[derive(Drop)]
+#[derive(Clone, Copy)]
 pub struct Progress {
     pub count: usize,
     pub next: usize,
@@ -303,7 +305,7 @@ pub fn number_before(
 
 // What is handed back: the number, and how many spans there are.
 #[repr(C)]
-#[derive(Drop)]
+#[derive(Clone, Copy)]
 pub struct Differences {
     pub number: u8,
     pub count: usize,

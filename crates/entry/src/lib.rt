@@ -1,4 +1,6 @@
 // What every call begins and ends with: the tests before work, the turn of the moods, and the reply.
+#![tactic(auto)]
+
 ghost use Rattle.std.specs.Prelude.{◌≡◌, true, not, ◌&&◌, ◌≤◌, T, length};
 ghost use Rattle.rules.specs.Book.{state, lengths, run_with, before, legal, all_up_to, lengths_fit, some_right, in_bounds, shape_fits, book_fits, word_fits, row_fits};
 ghost use Rattle.entry.specs.Sound.{flags_fit, sound, Lent, places_on, sound_number, placed_number, asked_number};

@@ -1,5 +1,7 @@
 // The event cycle: good file, good page, newline, newpage, set, and what follows an answer call each other. They recurse only as deep
 // as answers nest; everything else is a loop.
+#![tactic(auto)]
+
 ghost use Rattle.std.specs.Prelude.{◌≡◌};
 ghost use Rattle.rules.specs.Book.{state, mending_of};
 ghost use Rattle.rules.specs.Step.{outcome};

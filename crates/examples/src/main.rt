@@ -1,5 +1,7 @@
 // The examples E1 to E11 of document 01, E1's twin of document 02's C-14, one for each event of its C-12, and a book rewritten under its C-13,
 // run over the core: for each what the document says, and beside it the line that its last call writes.
+#![tactic(auto)]
+
 ghost use Rattle.std.specs.Prelude.{◌≤◌, ◌<◌};
 
 use libc::STDOUT_FILENO;

@@ -1,8 +1,10 @@
 // The lines of a source, of any size, one at a time into a lent buffer.
+#![tactic(auto)]
+
 ghost use Rattle.std.specs.Prelude.{◌≤◌, ◌+◌, length};
 
 // The open file that is read, and how far a chunk of it is used: from where, up to where it was filled.
-#[derive(Drop)]
+#[derive(Clone, Copy)]
 pub struct Feed {
     pub source: i32,
     pub from: usize,
@@ -10,7 +12,7 @@ pub struct Feed {
 }
 
 // A byte of the source, where there is one.
-#[derive(Drop)]
+#[derive(Clone, Copy)]
 pub struct Next {
     pub feed: Feed,
     pub byte: u8,
@@ -79,7 +81,7 @@ pub fn keep(line: &mut [u8], n: usize, b: u8) -> usize {
 }
 
 // A line of the source: how many bytes it has; one more than the buffer's for a longer one. Past the source's end there is none.
-#[derive(Drop)]
+#[derive(Clone, Copy)]
 pub struct Line {
     pub feed: Feed,
     pub count: usize,

@@ -1,5 +1,7 @@
 // The gets: a character, a string, an integer. Each answers every record, book, row and output; what it hands back and leaves is what
 // `call` says.
+#![tactic(auto)]
+
 ghost use Rattle.std.specs.Prelude.{◌≡◌, []};
 ghost use Rattle.rules.specs.Calls.{book, call, after, asking, gets_character, gets_string, gets_integer};
 

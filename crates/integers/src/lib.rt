@@ -1,4 +1,6 @@
 // Integers put and got: the room that one needs, its text, and its digits.
+#![tactic(auto)]
+
 ghost use Rattle.std.specs.Prelude.{◌≡◌, true, ◌+◌, ◌≤◌, ◌<◌, ◌^◌, T, nat_abs, pos};
 ghost use Rattle.std.proofs.lemmas.List.Edits.{sets};
 ghost use Rattle.rules.specs.Book.{next_character, character_index, moved_to, state, row_fits};
@@ -158,7 +160,7 @@ pub fn pass_blanks(
 }
 
 // What stands before the digits: the outcome, and whether it was a "-".
-#[derive(Drop)]
+#[derive(Clone, Copy)]
 pub struct Sign {
     pub outcome: Outcome,
     pub minus: bool,
@@ -248,7 +250,7 @@ pub fn first_digit(
 }
 
 // The outcome of a row of digits, and its value; of one above 2147483647 only that it is.
-#[derive(Drop)]
+#[derive(Clone, Copy)]
 pub struct Summed {
     pub outcome: Outcome,
     pub value: u64,
@@ -309,7 +311,7 @@ pub fn more_digits(
 }
 
 // A running call, and what it gives.
-#[derive(Drop)]
+#[derive(Clone, Copy)]
 pub struct Found {
     pub run: Run,
     pub given: Given,

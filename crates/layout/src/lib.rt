@@ -1,5 +1,7 @@
 // The layout calls: space, newline, newpage, set and set char number. Each answers every record, book, row and place; what it hands
 // back and leaves is what `call` says.
+#![tactic(auto)]
+
 ghost use Rattle.std.specs.Prelude.{◌≡◌, []};
 ghost use Rattle.rules.specs.Calls.{book, call, after, asking, spaces, newlines, newpages, sets, sets_character_number};
 ghost use Rattle.layout.specs.Again.{mood_again};

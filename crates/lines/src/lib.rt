@@ -1,4 +1,6 @@
 // Above the event cycle: good line, put of a character, space and set char number.
+#![tactic(auto)]
+
 ghost use Rattle.std.specs.Prelude.{◌≡◌, T, false};
 ghost use Rattle.rules.specs.Book.{state, kind_of, mending_of, row_fits};
 ghost use Rattle.rules.specs.Step.{outcome_giving, outcome};
@@ -9,7 +11,7 @@ ghost use Rattle.laws.specs.Follow.{followed};
 use rules::{Event, Outcome, Run};
 
 // The outcome of a step that gives a character, and the character; it means nothing where the step ended the call.
-#[derive(Drop)]
+#[derive(Clone, Copy)]
 pub struct Taken {
     pub outcome: Outcome,
     pub byte: u8,

@@ -1,5 +1,7 @@
 // The calls of the core once more, each with what it hands back in plain numbers, for a caller that can be handed no enum and no
 // slice: the C interface. Each answers what the core answers.
+#![tactic(auto)]
+
 ghost use Rattle.std.specs.Prelude.{◌≡◌, []};
 ghost use Rattle.rules.specs.Calls.{book, call, plain, asking, establishes, opens, closes, chooses, resets, backspaces, view_numbers, puts_character, puts_string, puts_integer, gets_character, gets_string, gets_integer, spaces, newlines, newpages, sets, sets_character_number};
 ghost use Rattle.rules.specs.Step.{event_number};
@@ -12,7 +14,7 @@ use rules::{Event, File, Given, Position, Reply};
 // answers taken, the count of characters delivered, and the logical end; and where that event was signalled. With no event this is
 // only where the record is left, and tells nothing more.
 #[repr(C)]
-#[derive(Drop)]
+#[derive(Clone, Copy)]
 pub struct CallResult {
     pub number: u8,
     pub stop: u8,
@@ -28,7 +30,7 @@ pub struct CallResult {
 
 // The record that a call leaves, and its result.
 #[repr(C)]
-#[derive(Drop)]
+#[derive(Clone, Copy)]
 pub struct Left {
     pub file: File,
     pub result: CallResult,

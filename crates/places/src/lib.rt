@@ -1,4 +1,6 @@
 // Positions and lengths: order, bounds, and where a line or a character stands among what is lent.
+#![tactic(auto)]
+
 ghost use Rattle.std.specs.Prelude.{◌≡◌, ◌-◌, ◌≤◌, ◌<◌, ◌^◌, ltb, get_or};
 ghost use Rattle.rules.specs.Book.{choose, place, before, lengths, page_length, line_index, line_length, character_index, in_bounds, state};
 ghost use Rattle.rules.specs.Step.{file_ended, page_ended, line_ended, on_end_line};

@@ -1,5 +1,7 @@
 // The calls that signal no event: establish, open, close, the choice of C-14, reset and backspace. Each answers every record and book; what
 // it hands back and leaves is what `call` says.
+#![tactic(auto)]
+
 ghost use Rattle.std.specs.Prelude.{◌≡◌, [], true, false};
 ghost use Rattle.rules.specs.Book.{place, file_as, file_choosing, file_opened, rewound};
 ghost use Rattle.plain.specs.Done.{done_reply};

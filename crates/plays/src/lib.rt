@@ -1,4 +1,6 @@
 // Plays a whole script: every line of a source, over two books and what they share.
+#![tactic(auto)]
+
 ghost use Rattle.std.specs.Prelude.{◌≡◌, length};
 
 use libc::STDOUT_FILENO;

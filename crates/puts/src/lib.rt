@@ -1,5 +1,7 @@
 // The puts: a character, a string, an integer. Each answers every record, book, row and text; what it hands back and leaves is what
 // `call` says.
+#![tactic(auto)]
+
 ghost use Rattle.std.specs.Prelude.{◌≡◌, []};
 ghost use Rattle.rules.specs.Calls.{book, call, after, asking, puts_character, puts_string, puts_integer};
 

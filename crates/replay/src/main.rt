@@ -1,4 +1,6 @@
 // Plays a script of calls from standard input and writes what each one did.
+#![tactic(auto)]
+
 use libc::STDIN_FILENO;
 
 fn main() {

@@ -1,4 +1,6 @@
 // Changes of the running call, the endings of a step, and the words of an answer row. Nothing here signals an event.
+#![tactic(auto)]
+
 ghost use Rattle.std.specs.Prelude.{◌≡◌, ◌&&◌, ◌<◌, ◌^◌};
 ghost use Rattle.rules.specs.Book.{place, moved_to, both_moved_to, in_mood, next_word, signalled_by, kind_of, page_of, line_of, character_of, place_of, mending_of, suggested};
 ghost use Rattle.rules.specs.Step.{going, event_as, done_by, refused_by, refused_at, stopped_by, status_by};

@@ -1,11 +1,13 @@
 // What a script keeps, the words of its lines, the arguments of its calls, and the lines that set the scene.
+#![tactic(auto)]
+
 ghost use Rattle.std.specs.Prelude.{not, ◌≡◌, ◌≤◌, length};
 
 use console::Decimal;
 use rules::{File, Position, Rights, Shape};
 
 // A side: a record and what is kept of its book beside the lent memory, which are the logical end and the lent sizes.
-#[derive(Drop)]
+#[derive(Clone, Copy)]
 pub struct Side {
     pub file: File,
     pub end: Position,
@@ -16,7 +18,7 @@ pub struct Side {
 
 // What a script keeps beside the lent memory: the two sides, how many answers stand in the row, and whether the first side has the
 // second set of buffers.
-#[derive(Drop)]
+#[derive(Clone, Copy)]
 pub struct Scene {
     pub first: Side,
     pub second: Side,
@@ -73,7 +75,7 @@ pub fn first_scene() -> Scene {
 }
 
 // What a line of a script did: the scene after it, and how much output it made. A line that cannot be read is not good.
-#[derive(Drop)]
+#[derive(Clone, Copy)]
 pub struct Played {
     pub scene: Scene,
     pub good: bool,
@@ -257,7 +259,7 @@ pub fn words_fit(code: u8, count: usize) -> bool {
 // ---- arguments
 
 // Three numbers, where all are good.
-#[derive(Drop)]
+#[derive(Clone, Copy)]
 pub struct Three {
     pub good: bool,
     pub a: usize,
@@ -286,7 +288,7 @@ pub fn three_numbers(line: &[u8], k: usize, most_a: usize, most_b: usize, most_c
 }
 
 // An integer, where it is good.
-#[derive(Drop)]
+#[derive(Clone, Copy)]
 pub struct Signed {
     pub good: bool,
     pub value: i32,
@@ -334,7 +336,7 @@ pub fn read_byte(word: &[u8]) -> Decimal {
 }
 
 // The arguments of a call.
-#[derive(Drop)]
+#[derive(Clone, Copy)]
 pub struct Arguments {
     pub good: bool,
     pub a: usize,

@@ -1,4 +1,6 @@
 // A script of calls over two sides, each a record and a book, line by line: the calls, and what a line does.
+#![tactic(auto)]
+
 ghost use Rattle.std.specs.Prelude.{◌≡◌, ◌≤◌};
 
 use rules::{File, Position, Reply};

@@ -1,5 +1,7 @@
 // Puts lines into a book of 2 pages of 3 lines of 8 characters, and shows what stands in it. `S text` puts a text, `N` is newline,
 // `G` newpage.
+#![tactic(auto)]
+
 use libc::{STDIN_FILENO, STDOUT_FILENO};
 use rules::{File, Position, Reply};
 

@@ -1,4 +1,6 @@
 // The line that a call writes.
+#![tactic(auto)]
+
 use rules::{Event, File, Given, Position, Reply, Status};
 
 // The number that a call gives.

@@ -1,5 +1,7 @@
 // What changes the lent characters and lengths: a character or a run of them stored, blanks, and the writing ends of a line and
 // of a page.
+#![tactic(auto)]
+
 ghost use Rattle.std.specs.Prelude.{◌≡◌, ◌⊎◌, ◌+◌, ◌-◌, ◌≤◌, ◌<◌, ◌^◌, length, set, take, drop, replicate};
 ghost use Rattle.std.proofs.lemmas.List.Edits.{sets};
 ghost use Rattle.rules.specs.Book.{place, lengths, character_index, state};

@@ -1,5 +1,7 @@
 // Strings put and got: a run of ordinary characters at once, a turn to the next line without the event cycle, any other character by itself.
 // A step that is called with the running call gets a copy of its own, so that the loop's own stays in registers.
+#![tactic(auto)]
+
 ghost use Rattle.std.specs.Prelude.{◌≡◌, [], true, ◌+◌, ◌-◌, ◌≤◌, ◌<◌, T, length, take, drop};
 ghost use Rattle.rules.specs.Book.{state, row_fits};
 ghost use Rattle.rules.specs.Step.{done, ending_by, outcome_with, outcome_giving, outcome};
@@ -18,7 +20,7 @@ use lines::Taken;
 use rules::{Event, Outcome, Run, Status};
 
 // What a string delivered: the running call after it, how it ended, and how many characters it got.
-#[derive(Drop)]
+#[derive(Clone, Copy)]
 pub struct Delivered {
     pub run: Run,
     pub status: Status,

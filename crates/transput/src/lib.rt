@@ -1,6 +1,8 @@
 // The thin layer: the interpreter keeps one file record and lends it to be changed at each call. Each function takes the record apart,
 // calls the core on it and stores the new one; each gives and leaves what the core does. All are exported for C, whose
 // declarations stand in include/transput.h; only the line view is not, since C can be handed no slice.
+#![tactic(auto)]
+
 ghost use Rattle.std.specs.Prelude.{◌≡◌, []};
 ghost use Rattle.rules.specs.Whole.{whole};
 ghost use Rattle.rules.specs.Calls.{book, call, plain, asking, establishes, opens, closes, chooses, resets, backspaces, views, view_numbers, puts_character, puts_string, puts_integer, gets_character, gets_string, gets_integer, spaces, newlines, newpages, sets, sets_character_number};

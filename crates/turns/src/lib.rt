@@ -1,5 +1,7 @@
 // The turn to the next line where a line end is that and nothing more. Strings that go over many lines meet it at each, so it is done
 // without the event cycle.
+#![tactic(auto)]
+
 ghost use Rattle.std.specs.Prelude.{◌≡◌, ◌<◌, ◌≤◌, ◌^◌};
 ghost use Rattle.rules.specs.Book.{state, moved_to, next_line, end_of, signalled_by};
 ghost use Rattle.rules.specs.Step.{done, end_line};

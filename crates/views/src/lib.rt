@@ -1,4 +1,6 @@
 // The line view and its number. Each answers every record, book and place; what it hands back is what `call` says.
+#![tactic(auto)]
+
 ghost use Rattle.std.specs.Prelude.{◌≡◌, [], ◌≤◌, length};
 ghost use Rattle.rules.specs.Book.{state, run_with};
 ghost use Rattle.rules.specs.Calls.{book, call, after, plain, views, view_numbers, shown, shown_length};
@@ -50,7 +52,7 @@ pub fn shown_length(run: Run, page: usize, line: usize, lines: &[u8], pages: &[u
 }
 
 // Where a shown line lies: number 0, with the index and the count of its shown characters; or the number of a refusal.
-#[derive(Drop)]
+#[derive(Clone, Copy)]
 pub struct Span {
     pub number: u8,
     pub from: usize,
@@ -106,7 +108,7 @@ pub fn view_number(
 
 // Where what a view hands back lies, and its number: in the marker text or in the text, from an index on, and how many characters.
 #[repr(C)]
-#[derive(Drop)]
+#[derive(Clone, Copy)]
 pub struct ViewPlace {
     pub number: u8,
     pub marker: bool,

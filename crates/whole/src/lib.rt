@@ -1,4 +1,6 @@
 // whole(v, w): an integer as a text, written digit by digit into a lent slice. A store past the slice's end is left out.
+#![tactic(auto)]
+
 ghost use Rattle.std.specs.Prelude.{◌≡◌, ◌+◌, ◌≤◌, ◌<◌, ◌^◌, true, length, replicate, nat_abs, pos};
 ghost use Rattle.std.proofs.lemmas.List.Edits.{sets};
 ghost use Rattle.rules.specs.Whole.{digits, padded, whole_text, Written, whole};
@@ -114,7 +116,7 @@ pub fn width_of(v: i32, w: i32) -> usize
 
 // What a call of whole hands back beside the lent output: its number, and how many characters it wrote.
 #[repr(C)]
-#[derive(Drop)]
+#[derive(Clone, Copy)]
 pub struct Wrote {
     pub number: u8,
     pub count: usize,
