@@ -106,10 +106,14 @@ module _ (p l : ℕ) where
 
   line_alone : (xs : List ℕ) (x y : Line) → OnlyOne xs x y → Some (λ a. a ≡ span p l 1 (length xs)) (line_spans p l x y)
   unfolding line_spans
+  line_alone xs hidden hidden x3 = elim x3 [ ]
+  line_alone xs (showing _) (showing _) x3 = elim x3 [ ]
   line_alone xs (showing _) hidden first = inl refl
   line_alone xs hidden (showing _) second = inl refl
 
 only_shown : (xs : List ℕ) (x y : Line) → OnlyOne xs x y → (x ≡ showing xs) ⊎ (y ≡ showing xs)
+only_shown xs hidden hidden x3 = elim x3 [ ]
+only_shown xs (showing _) (showing _) x3 = elim x3 [ ]
 only_shown xs (showing _) hidden first = inl refl
 only_shown xs hidden (showing _) second = inr refl
 

@@ -285,6 +285,32 @@ all_parts n s = by (some_right (rights_of s)) (moods_fit s.run.file) (legal (sha
     by false m true false f e o a = refl
     by false m false z f e o a = refl
 
+module _ (n : ℕ) (s : State) where
+  -- the three parts one after the other: the first that fails tells
+  pub all_flags_bad : flags_fit s.run.file ≡ false → false ≡ all_fits n s
+  all_flags_bad e = sym (ap (λ (b : Bool). b && (sound (shape_of s) n s.lengths.lines s.lengths.pages && placed (shape_of s) s.lengths (here s) (end_of s))) e) ∙ all_parts n s
+
+  pub all_sound_bad : flags_fit s.run.file ≡ true → sound (shape_of s) n s.lengths.lines s.lengths.pages ≡ false → false ≡ all_fits n s
+  all_sound_bad e f = sym (ap (λ (b : Bool). b && (sound (shape_of s) n s.lengths.lines s.lengths.pages && placed (shape_of s) s.lengths (here s) (end_of s))) e ∙ ap (λ (b : Bool). b && placed (shape_of s) s.lengths (here s) (end_of s)) f) ∙ all_parts n s
+
+  pub all_placed : flags_fit s.run.file ≡ true → sound (shape_of s) n s.lengths.lines s.lengths.pages ≡ true → placed (shape_of s) s.lengths (here s) (end_of s) ≡ all_fits n s
+  all_placed e f = sym (ap (λ (b : Bool). b && (sound (shape_of s) n s.lengths.lines s.lengths.pages && placed (shape_of s) s.lengths (here s) (end_of s))) e ∙ ap (λ (b : Bool). b && placed (shape_of s) s.lengths (here s) (end_of s)) f) ∙ all_parts n s
+
+  pub all_end_bad : flags_fit s.run.file ≡ true → sound (shape_of s) n s.lengths.lines s.lengths.pages ≡ true → in_bounds (shape_of s) s.lengths (end_of s) ≡ false → false ≡ all_fits n s
+  all_end_bad e f g = by (in_bounds (shape_of s) s.lengths (end_of s)) (before (end_of s) (here s)) (in_bounds (shape_of s) s.lengths (here s)) g ∙ all_placed e f
+    where
+      by : (a b c : Bool) → a ≡ false → false ≡ (a && not b && c)
+      by true b c o = cc
+      by false b c o = refl
+
+  pub all_reached : flags_fit s.run.file ≡ true → sound (shape_of s) n s.lengths.lines s.lengths.pages ≡ true → in_bounds (shape_of s) s.lengths (end_of s) ≡ true
+      → (not (before (end_of s) (here s)) && in_bounds (shape_of s) s.lengths (here s)) ≡ all_fits n s
+  all_reached e f g = by (in_bounds (shape_of s) s.lengths (end_of s)) (before (end_of s) (here s)) (in_bounds (shape_of s) s.lengths (here s)) g ∙ all_placed e f
+    where
+      by : (a b c : Bool) → a ≡ true → (not b && c) ≡ (a && not b && c)
+      by true b c o = refl
+      by false b c o = cc
+
 -- sound memory, as facts
 pub sound_lent : (h : Shape) (n : ℕ) (l p : List ℕ) → sound h n l p ≡ true → Lent h n l p
 unfolding lengths_fit sizes_fit

@@ -2,9 +2,9 @@
 #![tactic(auto)]
 
 ghost use Rattle.std.specs.Prelude.{◌≡◌, true, not, ◌&&◌, ◌≤◌, T, length};
-ghost use Rattle.rules.specs.Book.{state, lengths, run_with, before, legal, all_up_to, lengths_fit, some_right, in_bounds, shape_fits, book_fits, word_fits, row_fits};
+ghost use Rattle.rules.specs.Book.{state, lengths, run_with, before, legal, all_up_to, lengths_fit, some_right, in_bounds, shape_fits, book_fits, all_fits, moods_fit, word_fits, row_fits};
 ghost use Rattle.entry.specs.Sound.{flags_fit, sound, Lent, places_on, sound_number, placed_number, asked_number};
-ghost use Rattle.entry.specs.Before.{sizes_are, before_work, may_do, turnable_by, turned_by, reply_of, refused_reply, ended_reply};
+ghost use Rattle.entry.specs.Before.{sizes_are, before_work, before_asking, may_do, turnable_by, turned_by, reply_of, refused_reply, ended_reply};
 
 use rules::{Event, File, Given, Outcome, Position, Reply, Rights, Run, Shape, Status};
 
@@ -92,6 +92,19 @@ pub fn flags_fit(file: File) -> bool
     } else {
         file.rights.put
     }
+}
+
+// "both moods on, a mood without its right".
+pub fn moods_fit(file: File) -> bool
+    ensures { result ≡ moods_fit file }
+{
+    if file.reading {
+        if file.writing {
+            return false;
+        }
+        return file.rights.get;
+    }
+    if file.writing { file.rights.put } else { true }
 }
 
 // What establish looks at.
@@ -218,6 +231,26 @@ pub fn is_reached(
     position.character <= places_on(shape, text, lines, pages, position.page, position.line)
 }
 
+// What every other call looks at: what open does, and the record.
+pub fn all_fits(run: Run, text: &[u8], lines: &[u8], pages: &[u8]) -> bool
+    ensures { result ≡ all_fits (length text.now) (state run lines.now pages.now) }
+{
+    let file = run.file;
+    let shape = file.shape;
+    let position = file.position;
+    let end = run.end;
+    if !flags_fit(file) {
+        return false;
+    }
+    if !is_sound(shape, text.len(), lines, pages) {
+        return false;
+    }
+    if !is_within(shape, text.len(), lines, pages, end) {
+        return false;
+    }
+    is_reached(shape, text.len(), lines, pages, position, end)
+}
+
 // The first half of the tests before work: 1 where the record is not open; 3 where its flags, its shape, the lent sizes or the lengths do
 // not fit; or 0. The tests stand in two halves, so that each is short enough to become part of its caller.
 pub fn number_sound(file: File, text: usize, lines: &[u8], pages: &[u8]) -> u8
@@ -239,20 +272,20 @@ pub fn number_sound(file: File, text: usize, lines: &[u8], pages: &[u8]) -> u8
 
 // The second half: the number so far where it is not 0; 3 where logical end or position do not fit; or 0.
 pub fn number_placed(
-    number: u8,
+    sound: u8,
     file: File,
     end: Position,
     text: usize,
     lines: &[u8],
     pages: &[u8],
 ) -> u8
-    requires { number ≡ 0 → Lent file.shape text lines.now pages.now }
-    ensures { result ≡ placed_number number file end (lengths lines.now pages.now) }
+    requires { sound ≡ 0 → Lent file.shape text lines.now pages.now }
+    ensures { result ≡ placed_number sound file end (lengths lines.now pages.now) }
 {
     let shape = file.shape;
     let position = file.position;
-    if number != 0 {
-        return number;
+    if sound != 0 {
+        return sound;
     }
     if !is_within(shape, text, lines, pages, end) {
         return 3;
@@ -326,6 +359,14 @@ pub fn number_asked(number: u8, row: &[u32]) -> u8
         return number;
     }
     if row_fits(row) { 0 } else { 2 }
+}
+
+// The number of the first test that fails of a call that lends answers: 1, then 3, then 2; or 0.
+pub fn number_asking(run: Run, text: &[u8], lines: &[u8], pages: &[u8], row: &[u32]) -> u8
+    ensures { result ≡ before_asking row.now (length text.now) (state run lines.now pages.now) }
+{
+    let number = number_before(run, text, lines, pages);
+    number_asked(number, row)
 }
 
 // The right of a call that gets, or of one that puts.

@@ -1,0 +1,12 @@
+use Rattle.entry.proofs.Tests.{lengths_lines_bad, lengths_pages}
+use Rattle.rules.specs.Book.{lengths}
+use borrow.Author.Tests.{not-true, not-false}
+use mathlib.Core.Path.{sym, ◌∙◌}
+use borrow.Author.Rules.{rules}
+use Rattle.entry.proofs.lengths_fit.Goals as goal
+
+pub returns-then-not-all_up_to : goal.returns-then-not-all_up_to
+returns-then-not-all_up_to c = lengths_lines_bad c.args.shape (lengths c.args.lines.now c.args.pages.now) (sym c.all_up_to.ensures ∙ c.if-not-all_up_to.true)
+
+pub returns : goal.returns
+returns c = c.all_up_to-2.ensures ∙ lengths_pages c.args.shape (lengths c.args.lines.now c.args.pages.now) (sym c.all_up_to.ensures ∙ c.if-not-all_up_to.false)

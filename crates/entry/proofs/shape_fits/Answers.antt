@@ -1,0 +1,24 @@
+use borrow.Author.Rules.{rules}
+use mathlib.Core.Path.{sym, ◌∙◌}
+use borrow.Author.Tests.{not-true, not-false}
+use Rattle.entry.proofs.Tests.{all_three}
+use Prim.Native.Nat.{◌-◌}
+use lib.Dec.{T}
+use mathlib.Core.Path.{subst}
+use Rattle.rules.specs.Book.{shape_fits, sizes_fit}
+use Rattle.entry.proofs.shape_fits.Goals as goal
+
+pub returns-then-not-is_legal : goal.returns-then-not-is_legal
+unfolding shape_fits
+returns-then-not-is_legal c = simp (sym c.is_legal.ensures ∙ c.if-not-is_legal.true)
+
+pub sizes_fit-requires : goal.sizes_fit-requires
+sizes_fit-requires c = subst T (sym (sym c.is_legal.ensures ∙ c.if-not-is_legal.false)) tt
+
+pub returns-then-not-sizes_fit : goal.returns-then-not-sizes_fit
+unfolding shape_fits sizes_fit
+returns-then-not-sizes_fit c = simp ((sym c.is_legal.ensures ∙ c.if-not-is_legal.false), sym c.sizes_fit.ensures ∙ c.if-not-sizes_fit.true)
+
+pub returns : goal.returns
+unfolding shape_fits sizes_fit
+returns c = c.has_right.ensures ∙ all_three _ _ _ (sym c.is_legal.ensures ∙ c.if-not-is_legal.false) (sym c.sizes_fit.ensures ∙ c.if-not-sizes_fit.false)
