@@ -1,0 +1,28 @@
+use Rattle.characters.proofs.Runs.{outside_all, outside_found, outside_next}
+use Rattle.characters.specs.Passes.{outside}
+use Rattle.laws.specs.Runs.{every}
+use lib.ListN.{length, take, drop}
+use Prim.Native.Nat.{◌+◌, ◌-◌, ◌≤◌}
+use native.Mathlib.Omega.{arith}
+use mathlib.Core.Path.{◌≡◌, refl, sym, ◌∙◌}
+use borrow.Author.Tests.{not-true, not-false}
+use borrow.Author.Rules.{rules}
+use Rattle.characters.proofs.none_ends.Goals as goal
+
+pub loop-i-init : goal.loop-i-init
+loop-i-init c = refl
+
+pub is_absent-requires : goal.is_absent-requires
+is_absent-requires c = c.requires
+
+pub returns-then-not-is_absent : goal.returns-then-not-is_absent
+returns-then-not-is_absent c = outside_found c.args.terminators.now (take c.args.count (drop c.args.from c.args.bytes.now)) c.loop-i.i c.loop-i.invariant c.loop-i-test.true c.is_absent.ensures c.if-not-is_absent.true
+
+pub loop-i-smaller : goal.loop-i-smaller
+loop-i-smaller c = omega (arith, c.loop-i-test.true)
+
+pub loop-i-preserved : goal.loop-i-preserved
+loop-i-preserved c = outside_next c.args.terminators.now (take c.args.count (drop c.args.from c.args.bytes.now)) c.loop-i.i c.loop-i.invariant c.loop-i-test.true c.is_absent.ensures c.if-not-is_absent.false
+
+pub returns : goal.returns
+returns c = outside_all c.args.terminators.now (take c.args.count (drop c.args.from c.args.bytes.now)) c.loop-i.i c.loop-i.invariant c.loop-i-test.false

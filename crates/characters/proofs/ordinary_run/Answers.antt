@@ -1,0 +1,38 @@
+use Rattle.characters.proofs.Runs.{every_none, every_next}
+use Rattle.laws.specs.Runs.{ordinary}
+use mathlib.Core.Bool.{true}
+use Rattle.laws.specs.Runs.{every}
+use lib.ListN.{length, take, drop}
+use Prim.Native.Nat.{◌+◌, ◌-◌, ◌≤◌}
+use native.Mathlib.Omega.{arith}
+use mathlib.Core.Path.{◌≡◌, refl, sym, ◌∙◌}
+use borrow.Author.Tests.{not-true, not-false}
+use borrow.Author.Rules.{rules}
+use Rattle.characters.proofs.ordinary_run.Goals as goal
+
+pub all_ordinary-requires : goal.all_ordinary-requires
+all_ordinary-requires c = c.requires
+
+pub returns-then-all_ordinary : goal.returns-then-all_ordinary
+returns-then-all_ordinary c = (omega arith, sym c.all_ordinary.ensures ∙ c.if-all_ordinary.true)
+
+pub loop-i-init : goal.loop-i-init
+loop-i-init c = (omega arith, every_none _ (drop c.args.from c.args.bytes.now))
+
+pub overflow_add-from : goal.overflow_add-from
+overflow_add-from c = omega (arith, c.requires, c.loop-i-test.true, c.well_formed)
+
+pub bounds-bytes-from : goal.bounds-bytes-from
+bounds-bytes-from c = omega (arith, c.requires, c.loop-i-test.true)
+
+pub returns-then-not-is_ordinary : goal.returns-then-not-is_ordinary
+returns-then-not-is_ordinary c = (omega (arith, c.loop-i.invariant.0), c.loop-i.invariant.1)
+
+pub loop-i-smaller : goal.loop-i-smaller
+loop-i-smaller c = omega (arith, c.loop-i-test.true)
+
+pub loop-i-preserved : goal.loop-i-preserved
+loop-i-preserved c = (omega (arith, c.loop-i-test.true), every_next _ c.args.bytes.now c.args.from _ (omega (arith, c.requires, c.loop-i-test.true)) c.loop-i.invariant.1 (sym c.is_ordinary.ensures ∙ c.if-not-is_ordinary.false))
+
+pub returns : goal.returns
+returns c = (omega (arith, c.loop-i.invariant.0), c.loop-i.invariant.1)
