@@ -2,9 +2,10 @@
 // here can fail: what does not fit is left out, and what cannot be read is told apart.
 #![tactic(auto)]
 
-ghost use Rattle.std.specs.Prelude.{◌≡◌, ◌≤◌, ◌+◌, length};
+ghost use Rattle.std.specs.Prelude.{◌≡◌, ◌≢◌, ℕ, ◌≤◌, ◌<◌, ◌+◌, ◌↔◌, IsTrue, length, slice_index};
 
-use libc::STDOUT_FILENO;
+use std::io;
+use std::io::Write;
 
 // ---- output
 
@@ -28,11 +29,27 @@ pub fn push_all(out: &mut [u8], n: usize, bytes: &[u8]) -> usize {
     m
 }
 
+// A number in decimal, at the end of a lent buffer: where it starts.
+pub fn decimal_digits(value: u64, digits: &mut [u8; 20]) -> usize
+    ensures { result ≤ 20 }
+{
+    let mut rest = value;
+    for i in 0..20usize {
+        let at = 19 - i;
+        digits[at] = 48 + (rest % 10) as u8;
+        rest /= 10;
+        if rest == 0 {
+            return at;
+        }
+    }
+    0
+}
+
 // A number in decimal.
 pub fn push_decimal(out: &mut [u8], n: usize, value: u64) -> usize {
     let mut digits = [0u8; 20];
-    let k = io::decimal(value, &mut digits);
-    push_all(out, n, &digits[..k])
+    let from = decimal_digits(value, &mut digits);
+    push_all(out, n, &digits[from..])
 }
 
 // A blank and a number.
@@ -81,10 +98,18 @@ pub fn push_hex(out: &mut [u8], n: usize, bytes: &[u8]) -> usize {
 }
 
 // Writes the first n bytes.
-pub fn write_out(out: &[u8], n: usize) {
+pub fn write_out<W: Write>(writer: &mut W, out: &[u8], n: usize) -> io::Result<()> {
     if n <= out.len() {
-        io::write_all(STDOUT_FILENO, &out[0..n]);
+        return writer.write_all(&out[0..n]);
     }
+    Ok(())
+}
+
+// Writes a number in decimal.
+pub fn write_decimal<W: Write>(writer: &mut W, value: u64) -> io::Result<()> {
+    let mut digits = [0u8; 20];
+    let from = decimal_digits(value, &mut digits);
+    writer.write_all(&digits[from..])
 }
 
 // ---- input
@@ -116,6 +141,30 @@ pub fn at_most_one(a: usize, b: usize, c: usize) -> bool {
         return false;
     }
     if 1 < b { false } else { c <= 1 }
+}
+
+// Whether two texts are the same.
+pub fn same(a: &[u8], b: &[u8]) -> bool
+    ensures { IsTrue result ↔ a.now ≡ b.now }
+{
+    a == b
+}
+
+// Where a byte stands first from an index on, before another; the other where it does not.
+pub fn find(text: &[u8], from: usize, to: usize, b: u8) -> usize
+    requires order { from ≤ to }
+    requires fits { to ≤ length text.now }
+    ensures low { from ≤ result }
+    ensures high { result ≤ to }
+    ensures before { (k : ℕ) → from ≤ k → k < result → slice_index text.now k ≢ b }
+    ensures found { result < to → slice_index text.now result ≡ b }
+{
+    for i in from..to {
+        if text[i] == b {
+            return i;
+        }
+    }
+    to
 }
 
 // How many words a line has: they are separated by one blank.
@@ -150,7 +199,7 @@ pub fn word_start(line: &[u8], k: usize) -> usize
 // The k-th word of a line, counted from 0; empty where there is none.
 pub fn word<'a>(line: &'a [u8], k: usize) -> &'a [u8] {
     let from = word_start(line, k);
-    let to = bytes::scan::find(line, from, line.len(), 32);
+    let to = find(line, from, line.len(), 32);
     &line[from..to]
 }
 
@@ -185,7 +234,7 @@ pub fn all_hex(word: &[u8]) -> bool {
 
 // Whether a word is "-" or pairs of hexadecimal digits.
 pub fn is_hex(word: &[u8]) -> bool {
-    if check::same(word, b"-") {
+    if same(word, b"-") {
         return true;
     }
     if word.len() % 2 == 1 {

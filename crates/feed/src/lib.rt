@@ -1,12 +1,14 @@
 // The lines of a source, of any size, one at a time into a lent buffer.
 #![tactic(auto)]
 
-ghost use Rattle.std.specs.Prelude.{◌≤◌, ◌+◌, length};
+ghost use Rattle.std.specs.Prelude.{IfOk, ◌≤◌, ◌+◌, length};
 
-// The open file that is read, and how far a chunk of it is used: from where, up to where it was filled.
+use std::io;
+use std::io::Read;
+
+// How far a chunk of the source that is read is used: from where, up to where it was filled.
 #[derive(Clone, Copy)]
 pub struct Feed {
-    pub source: i32,
     pub from: usize,
     pub to: usize,
 }
@@ -20,12 +22,26 @@ pub struct Next {
 }
 
 // A source of which nothing is read yet.
-pub fn unread(source: i32) -> Feed {
-    Feed {
-        source: source,
-        from: 0,
-        to: 0,
+pub fn unread() -> Feed {
+    Feed { from: 0, to: 0 }
+}
+
+// Reads until the buffer is full or the source ends: how many bytes now stand at its start.
+pub fn read_full<R: Read>(source: &mut R, buffer: &mut [u8]) -> io::Result<usize>
+    ensures { IfOk result (λ n. n ≤ length buffer.new) }
+{
+    let mut done = 0;
+    for _ in 0..u64::MAX {
+        if buffer.len() <= done {
+            break;
+        }
+        let n = source.read(&mut buffer[done..])?;
+        if n == 0 {
+            break;
+        }
+        done += n;
     }
+    Ok(done)
 }
 
 // The byte at the place that the feed has come to.
@@ -46,7 +62,6 @@ pub fn byte_of(chunk: &[u8], feed: Feed) -> Next {
         };
     }
     let after = Feed {
-        source: feed.source,
         from: i + 1,
         to: feed.to,
     };
@@ -58,17 +73,13 @@ pub fn byte_of(chunk: &[u8], feed: Feed) -> Next {
 }
 
 // The next byte of the source; another chunk is read where the last is used up.
-pub fn next_byte(chunk: &mut [u8], feed: Feed) -> Next {
+pub fn next_byte<R: Read>(source: &mut R, chunk: &mut [u8], feed: Feed) -> io::Result<Next> {
     if feed.from < feed.to {
-        return byte_of(chunk, feed);
+        return Ok(byte_of(chunk, feed));
     }
-    let n = io::read_full(feed.source, chunk);
-    let filled = Feed {
-        source: feed.source,
-        from: 0,
-        to: n,
-    };
-    byte_of(chunk, filled)
+    let n = read_full(source, chunk)?;
+    let filled = Feed { from: 0, to: n };
+    Ok(byte_of(chunk, filled))
 }
 
 // One byte more of a line; a line that is longer than the buffer counts one more than fits.
@@ -88,34 +99,37 @@ pub struct Line {
     pub there: bool,
 }
 
-// The next line, without its line feed. The loop counts its turns down, from a number that no source uses up.
-pub fn next_line(chunk: &mut [u8], feed: Feed, line: &mut [u8]) -> Line {
-    let mut turns = u64::MAX;
+// The next line, without its line feed. The loop takes a number of turns that no source uses up.
+pub fn next_line<R: Read>(
+    source: &mut R,
+    chunk: &mut [u8],
+    feed: Feed,
+    line: &mut [u8],
+) -> io::Result<Line> {
     let mut at = feed;
     let mut n = 0;
-    while 0 < turns {
-        let next = next_byte(chunk, at);
+    for _ in 0..u64::MAX {
+        let next = next_byte(source, chunk, at)?;
         at = next.feed;
         if !next.there {
-            return Line {
+            return Ok(Line {
                 feed: at,
                 count: n,
                 there: 0 < n,
-            };
+            });
         }
         if next.byte == 10 {
-            return Line {
+            return Ok(Line {
                 feed: at,
                 count: n,
                 there: true,
-            };
+            });
         }
         n = keep(line, n, next.byte);
-        turns -= 1;
     }
-    Line {
+    Ok(Line {
         feed: at,
         count: n,
         there: false,
-    }
+    })
 }
