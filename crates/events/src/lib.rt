@@ -12,7 +12,7 @@ ghost use Rattle.laws.specs.Follow.{followed};
 use rules::{Event, Outcome, Position, Run};
 
 // "Good file: reading, signal logical end while the position is at it; writing, signal physical end while p > P."
-#[cycle(follow_good_file_good_page_newline_newpage_page_end_perform_set_to)]
+#[cycle(event)]
 pub fn good_file(
     run: Run,
     reading: bool,
@@ -46,7 +46,7 @@ pub fn good_file(
 }
 
 // "Good page: good file, then signal page end while l exceeds the page length."
-#[cycle(follow_good_file_good_page_newline_newpage_page_end_perform_set_to)]
+#[cycle(event)]
 pub fn good_page(
     run: Run,
     reading: bool,
@@ -77,7 +77,7 @@ pub fn good_page(
 }
 
 // Signals page end, with newpage as its default.
-#[cycle(follow_good_file_good_page_newline_newpage_page_end_perform_set_to)]
+#[cycle(event)]
 pub fn page_end(
     run: Run,
     reading: bool,
@@ -100,7 +100,7 @@ pub fn page_end(
 
 // "Newline: good page. On the logical end's line the position first moves to that end; reading starts newline again; writing cuts the
 // line there if compress, else fills it with blanks .. On another line only the position moves."
-#[cycle(follow_good_file_good_page_newline_newpage_page_end_perform_set_to)]
+#[cycle(event)]
 pub fn newline(
     run: Run,
     reading: bool,
@@ -134,7 +134,7 @@ pub fn newline(
 
 // "Newpage: good file. On the end's page the position first moves to the end; reading starts again; writing, the rest of the page is
 // blanked, or with compress .. cut .. On another page only the position moves."
-#[cycle(follow_good_file_good_page_newline_newpage_page_end_perform_set_to)]
+#[cycle(event)]
 pub fn newpage(
     run: Run,
     reading: bool,
@@ -168,7 +168,7 @@ pub fn newpage(
 
 // Follows an event's answer that is not false: kind 8 ends the call in that event; any other is performed, and the call's mood is set
 // again.
-#[cycle(follow_good_file_good_page_newline_newpage_page_end_perform_set_to)]
+#[cycle(event)]
 pub fn follow(
     run: Run,
     word: u32,
@@ -195,7 +195,7 @@ pub fn follow(
 }
 
 // What a true answer does, by its kind.
-#[cycle(follow_good_file_good_page_newline_newpage_page_end_perform_set_to)]
+#[cycle(event)]
 pub fn perform(
     run: Run,
     word: u32,
@@ -238,7 +238,7 @@ pub fn perform(
 
 // "Set: beyond the logical end, go to that end and signal logical end (0: refusal 7; else done); out of bounds, refusal 6; else go."
 // Refusal 7 is 14 since document 02.
-#[cycle(follow_good_file_good_page_newline_newpage_page_end_perform_set_to)]
+#[cycle(event)]
 pub fn set_to(
     run: Run,
     to: Position,

@@ -24,13 +24,13 @@ pub width_of-width-requires : goal.width_of-width-requires
 width_of-width-requires c = (omega (arith, (not_lowest _ c.ranges.v c.if-v-eqminus2147483648.false), read_absolute _ c.ranges.v), omega (arith, (read_within _ c.ranges.w c.if-w-ltminus255.false c.if-w-gt255.false), read_absolute _ c.ranges.w))
 
 pub returns-then-output-width : goal.returns-then-output-width
-returns-then-output-width c = whole_12 c.args.v c.args.w c.args.output.now (not_lowest _ c.ranges.v c.if-v-eqminus2147483648.false).0 (read_within _ c.ranges.w c.if-w-ltminus255.false c.if-w-gt255.false) (c.width_of_lem.ensures.0 ∙ length_as_read (read_is _ c.ranges.v) (read_is _ c.ranges.w)) c.if-output-width.true
+returns-then-output-width c = whole_12 c.args.v c.args.w c.args.output.now (not_lowest _ c.ranges.v c.if-v-eqminus2147483648.false).0 (read_within _ c.ranges.w c.if-w-ltminus255.false c.if-w-gt255.false) (c.width_of-width.ensures.0 ∙ length_as_read (read_is _ c.ranges.v) (read_is _ c.ranges.w)) c.if-output-width.true
 
 pub magnitude-n-requires : goal.magnitude-n-requires
 magnitude-n-requires c = omega (arith, (not_lowest _ c.ranges.v c.if-v-eqminus2147483648.false), read_absolute _ c.ranges.v)
 
 pub put_padded-requires : goal.put_padded-requires
-put_padded-requires c = omega (arith, c.width_of_lem.ensures.1)
+put_padded-requires c = omega (arith, c.width_of-width.ensures.1)
 
 pub returns : goal.returns
-returns c = whole_0 c.args.v c.args.w c.args.output.now (not_lowest _ c.ranges.v c.if-v-eqminus2147483648.false).0 (read_within _ c.ranges.w c.if-w-ltminus255.false c.if-w-gt255.false) (c.width_of_lem.ensures.0 ∙ length_as_read (read_is _ c.ranges.v) (read_is _ c.ranges.w)) (omega (arith, c.if-output-width.false)) (c.magnitude-n.ensures ∙ read_absolute _ c.ranges.v) (c.is_negative-below.ensures ∙ ap negative (read_is _ c.ranges.v)) (ap (lt_z (pos 0)) (read_is _ c.ranges.w)) c.put_padded.ensures
+returns c = whole_0 c.args.v c.args.w c.args.output.now (not_lowest _ c.ranges.v c.if-v-eqminus2147483648.false).0 (read_within _ c.ranges.w c.if-w-ltminus255.false c.if-w-gt255.false) (c.width_of-width.ensures.0 ∙ length_as_read (read_is _ c.ranges.v) (read_is _ c.ranges.w)) (omega (arith, c.if-output-width.false)) (c.magnitude-n.ensures ∙ read_absolute _ c.ranges.v) (c.is_negative-below.ensures ∙ ap negative (read_is _ c.ranges.v)) (ap (lt_z (pos 0)) (read_is _ c.ranges.w)) c.put_padded.ensures

@@ -1,0 +1,65 @@
+-- The proof of the cycle of calls. Every measure is that of the definitions: answers left, then places left, then the action.
+use borrow.Author.Rules.{rules}
+use mathlib.Core.Bool.{true, false}
+use Rattle.stores.proofs.Smalls.{end_small}
+use Rattle.laws.proofs.Cases.{held_ends, held_stays, held_event_ends, held_again, good_file_stays, good_file_stops, good_file_refuses, good_file_ends, good_file_again, law_good_page, good_page_file, good_page_from, good_page_on, page_end_default, page_end_follows, newline_page, newline_ends, newline_done, newline_from, newline_moves, newline_on, newline_again, newline_closes, newpage_file, newpage_ends, newpage_done, newpage_from, newpage_moves, newpage_on, newpage_again, newpage_closes, follow_perform, follow_jumps, follow_ends, follow_done, perform_lower, perform_newline_reading, perform_newline_writing, perform_newline_moodless, perform_newpage_reading, perform_newpage_writing, perform_newpage_moodless, perform_set, perform_backspace, perform_reset, perform_nothing, set_no_right, set-outside, set_goes, set_from, set_refused, set_jumps, set_performs}
+use Rattle.laws.proofs.Ways.{below, reached, halted, hands_on, hands_done, from_lower, from_default, from_answer, followed_on, Looped, looped_start, looped_on, looped_again, looped_less}
+use Rattle.laws.proofs.Progress.{events_small, from_start}
+use Rattle.laws.proofs.Validity.{near_at}
+use Rattle.rules.specs.Steps.{Action, measure}
+use Rattle.rules.specs.Book.{state, mending_of}
+use lib.ListN.{length}
+use mathlib.Core.Path.{◌≡◌, refl, sym, ap, subst, ◌∙◌}
+use native.Mathlib.Omega.{arith}
+use borrow.Author.Tests.{not-true, not-false}
+use Prim.Native.Nat.{◌≤◌, ◌+◌}
+use Prim.Native.Nat.{ℕ, ◌<◌}
+use Rattle.events.proofs.+event.Given as goal
+
+abbrev pub decreases-follow : goal.decreases-follow
+decreases-follow l = measure l.row.now (Action.answered l.reading (mending_of l.word)) (state l.run l.lines.now l.pages.now)
+
+abbrev pub decreases-good_file : goal.decreases-good_file
+decreases-good_file l = measure l.row.now (Action.good_file l.reading l.string) (state l.run l.lines.now l.pages.now)
+
+abbrev pub decreases-good_page : goal.decreases-good_page
+decreases-good_page l = measure l.row.now (Action.good_page l.reading l.string) (state l.run l.lines.now l.pages.now)
+
+abbrev pub decreases-newline : goal.decreases-newline
+decreases-newline l = measure l.row.now (Action.newline l.reading) (state l.run l.lines.now l.pages.now)
+
+abbrev pub decreases-newpage : goal.decreases-newpage
+decreases-newpage l = measure l.row.now (Action.newpage l.reading) (state l.run l.lines.now l.pages.now)
+
+abbrev pub decreases-page_end : goal.decreases-page_end
+decreases-page_end l = measure l.row.now (Action.at_page_end l.reading) (state l.run l.lines.now l.pages.now)
+
+abbrev pub decreases-perform : goal.decreases-perform
+decreases-perform l = measure l.row.now (Action.perform (mending_of l.word)) (state l.run l.lines.now l.pages.now)
+
+abbrev pub decreases-set_to : goal.decreases-set_to
+decreases-set_to l = measure l.row.now (Action.set_to l.to) (state l.run l.lines.now l.pages.now)
+
+abbrev pub invariant-good_file-loop-word : goal.invariant-good_file-loop-word
+invariant-good_file-loop-word l = Looped l.row (Action.good_file l.reading l.string) (state l.initial.here l.fn.lines l.fn.pages) l.fn.text (state l.here l.lines l.pages) l.text × (length l.text ≡ length l.fn.text) × (length l.lines ≡ length l.fn.lines) × (length l.pages ≡ length l.fn.pages)
+
+abbrev pub decreases-good_file-loop-word : goal.decreases-good_file-loop-word
+decreases-good_file-loop-word l = measure l.row (Action.good_file l.reading l.string) (state l.here l.lines l.pages)
+
+abbrev pub invariant-good_page-loop-good : goal.invariant-good_page-loop-good
+invariant-good_page-loop-good l = Looped l.row (Action.good_page l.reading l.string) (state l.initial.here l.fn.lines l.fn.pages) l.fn.text (state l.here l.lines l.pages) l.text × (length l.text ≡ length l.fn.text) × (length l.lines ≡ length l.fn.lines) × (length l.pages ≡ length l.fn.pages)
+
+abbrev pub decreases-good_page-loop-good : goal.decreases-good_page-loop-good
+decreases-good_page-loop-good l = measure l.row (Action.good_page l.reading l.string) (state l.here l.lines l.pages)
+
+abbrev pub invariant-newline-loop-good : goal.invariant-newline-loop-good
+invariant-newline-loop-good l = Looped l.row (Action.newline l.reading) (state l.initial.here l.fn.lines l.fn.pages) l.fn.text (state l.here l.lines l.pages) l.text × (length l.text ≡ length l.fn.text) × (length l.lines ≡ length l.fn.lines) × (length l.pages ≡ length l.fn.pages)
+
+abbrev pub decreases-newline-loop-good : goal.decreases-newline-loop-good
+decreases-newline-loop-good l = measure l.row (Action.newline l.reading) (state l.here l.lines l.pages)
+
+abbrev pub invariant-newpage-loop-good : goal.invariant-newpage-loop-good
+invariant-newpage-loop-good l = Looped l.row (Action.newpage l.reading) (state l.initial.here l.fn.lines l.fn.pages) l.fn.text (state l.here l.lines l.pages) l.text × (length l.text ≡ length l.fn.text) × (length l.lines ≡ length l.fn.lines) × (length l.pages ≡ length l.fn.pages)
+
+abbrev pub decreases-newpage-loop-good : goal.decreases-newpage-loop-good
+decreases-newpage-loop-good l = measure l.row (Action.newpage l.reading) (state l.here l.lines l.pages)

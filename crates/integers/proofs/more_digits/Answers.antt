@@ -1,0 +1,42 @@
+use borrow.Author.Rules.{rules}
+use Rattle.laws.proofs.Ways.{reached, halted, hands_on, hands_done, Looped, looped_start, looped_on, looped_again, looped_less, from_lower, done_of}
+use Rattle.rules.specs.Steps.{Action, measure}
+use Rattle.rules.specs.Book.{state}
+use borrow.Author.Tests.{not-true, not-false}
+use lib.ListN.{length}
+use mathlib.Core.Path.{◌≡◌, refl, sym, ap, subst, ◌∙◌}
+use native.Mathlib.Omega.{arith}
+use Rattle.laws.proofs.Validity.{near_at}
+use Rattle.stores.proofs.Smalls.{here_small}
+use Rattle.integers.proofs.Sums.{Summing, summing_start, summing_small, summing_line, summing_halts, summing_stops, summing_valid, summing_stays, summing_less, summing_again}
+use Rattle.integers.proofs.more_digits.Goals as goal
+
+pub loop-at-init : goal.loop-at-init
+loop-at-init c = (summing_start c.args.text.now c.requires.ready c.requires.first_bound, refl, refl, refl)
+
+pub good_line-good-requires : goal.good_line-good-requires
+good_line-good-requires c = summing_line c.loop-at.invariant.0
+
+pub returns-then-good-eq0 : goal.returns-then-good-eq0
+returns-then-good-eq0 c = summing_halts c.loop-at.invariant.0 c.good_line-good.result _ _ _ c.good_line-good.ensures (sym c.goes_on.ensures ∙ c.if-not-goes_on.true) c.if-good-eq0.true
+
+pub returns-then-not-goes_on : goal.returns-then-not-goes_on
+returns-then-not-goes_on c = summing_stops c.loop-at.invariant.0 c.good_line-good.result _ _ _ c.good_line-good.ensures (sym c.goes_on.ensures ∙ c.if-not-goes_on.true) c.if-good-eq0.false c.finish.ensures
+
+pub character_here-b-requires : goal.character_here-b-requires
+character_here-b-requires c = let asked = here_small (summing_valid c.loop-at.invariant.0 (reached c.good_line-good.result c.good_line-good.ensures (sym c.goes_on.ensures ∙ c.if-not-goes_on.false)) refl) in record { small = asked.0; le_character = asked.1 }
+
+pub returns-then-not-is_digit : goal.returns-then-not-is_digit
+returns-then-not-is_digit c = summing_stays c.loop-at.invariant.0 (reached c.good_line-good.result c.good_line-good.ensures (sym c.goes_on.ensures ∙ c.if-not-goes_on.false)) c.character_here-b.ensures (sym c.is_digit.ensures ∙ c.if-not-is_digit.true) c.finish-then-not-is_digit.ensures
+
+pub next_value-value-requires : goal.next_value-value-requires
+next_value-value-requires c = (summing_small c.loop-at.invariant.0, (sym c.is_digit.ensures ∙ c.if-not-is_digit.false))
+
+pub passed-here-requires : goal.passed-here-requires
+passed-here-requires c = omega (arith, near_at (summing_valid c.loop-at.invariant.0 (reached c.good_line-good.result c.good_line-good.ensures (sym c.goes_on.ensures ∙ c.if-not-goes_on.false)) refl))
+
+pub loop-at-smaller : goal.loop-at-smaller
+loop-at-smaller c = summing_less c.loop-at.invariant.0 (reached c.good_line-good.result c.good_line-good.ensures (sym c.goes_on.ensures ∙ c.if-not-goes_on.false)) c.character_here-b.ensures (sym c.is_digit.ensures ∙ c.if-not-is_digit.false) c.passed-here.ensures
+
+pub loop-at-preserved : goal.loop-at-preserved
+loop-at-preserved c = (summing_again c.loop-at.invariant.0 (reached c.good_line-good.result c.good_line-good.ensures (sym c.goes_on.ensures ∙ c.if-not-goes_on.false)) c.character_here-b.ensures (sym c.is_digit.ensures ∙ c.if-not-is_digit.false) c.passed-here.ensures c.next_value-value.ensures, c.good_line-good.auto.text ∙ c.loop-at.invariant.1, c.good_line-good.auto.lines ∙ c.loop-at.invariant.2, c.good_line-good.auto.pages ∙ c.loop-at.invariant.3)

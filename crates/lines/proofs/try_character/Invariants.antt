@@ -1,0 +1,19 @@
+use borrow.Author.Rules.{rules}
+use Rattle.laws.proofs.Ways.{reached, halted, hands_on}
+use Rattle.rules.specs.Steps.{Action, measure}
+use Rattle.rules.specs.Book.{state}
+use borrow.Author.Tests.{not-true, not-false}
+use lib.ListN.{length}
+use mathlib.Core.Path.{◌≡◌, refl, sym, ◌∙◌}
+use native.Mathlib.Omega.{arith}
+use Rattle.stores.proofs.Smalls.{here_small}
+use Rattle.laws.proofs.Ways.{gives, gives_none, hands_on}
+use Rattle.laws.proofs.Progress.{ready_as}
+use Rattle.laws.proofs.Lines.{Trying, put_line, put_ends, put_done, put_from, put_stores, put_event_ends, trying_again, trying_less}
+use Rattle.lines.proofs.try_character.Given as goal
+
+abbrev pub invariant-loop-good : goal.invariant-loop-good
+invariant-loop-good l = Trying l.row l.string l.initial.c (state l.initial.here l.fn.lines l.fn.pages) l.fn.text l.c (state l.here l.lines l.pages) l.text × (length l.text ≡ length l.fn.text) × (length l.lines ≡ length l.fn.lines) × (length l.pages ≡ length l.fn.pages)
+
+abbrev pub decreases-loop-good : goal.decreases-loop-good
+decreases-loop-good l = measure l.row (Action.put_character l.string l.c) (state l.here l.lines l.pages)
