@@ -2,8 +2,14 @@
 // character, and the two texts there.
 #![tactic(auto)]
 
-use libc::{STDERR_FILENO, STDOUT_FILENO};
+ghost use Rattle.std.specs.Prelude.{IfOk, ◌≤◌, length};
+
 use scenes::{Scene, Side};
+use std::env::FillError;
+use std::fs::File;
+use std::io::{Read, Write};
+use std::rt::{Env, Files};
+use std::{io, str};
 
 // A byte of a text: itself where it is printable, else its two hexadecimal digits.
 fn push_byte(out: &mut [u8], n: usize, b: u8) -> usize {
@@ -96,7 +102,8 @@ fn push_place(out: &mut [u8], page: usize, line: usize, first: usize, last: usiz
 }
 
 // Writes a span of the list, and what both books show there.
-fn write_span(
+fn write_span<W: Write>(
+    writer: &mut W,
     list: &[u8],
     k: usize,
     before: Side,
@@ -108,9 +115,9 @@ fn write_span(
     other_lines: &[u8],
     other_pages: &[u8],
     out: &mut [u8],
-) {
+) -> io::Result<()> {
     if list.len() / 4 <= k {
-        return;
+        return Ok(());
     }
     let i = 4 * k;
     let page = byte_at(list, i);
@@ -135,27 +142,28 @@ fn write_span(
         other_pages,
     );
     let n = console::push(out, there, 10);
-    console::write_out(out, n);
+    console::write_out(writer, out, n)
 }
 
 // Says why the books are not compared.
-fn write_refused(number: u8) {
-    io::write_all(STDOUT_FILENO, b"refused ");
-    io::print_decimal(STDOUT_FILENO, number as u64);
+fn write_refused<W: Write>(writer: &mut W, number: u8) -> io::Result<()> {
+    writer.write_all(b"refused ")?;
+    console::write_decimal(writer, number as u64)?;
     if number == 1 {
-        io::write_all(STDOUT_FILENO, b": a record is not open");
+        writer.write_all(b": a record is not open")?;
     }
     if number == 3 {
-        io::write_all(STDOUT_FILENO, b": a record or a book breaks the rules");
+        writer.write_all(b": a record or a book breaks the rules")?;
     }
     if number == 12 {
-        io::write_all(STDOUT_FILENO, b": more spans than there is room for");
+        writer.write_all(b": more spans than there is room for")?;
     }
-    io::write_all(STDOUT_FILENO, b"\n");
+    writer.write_all(b"\n")
 }
 
 // Writes every span of the list.
-fn write_spans(
+fn write_spans<W: Write>(
+    writer: &mut W,
     count: usize,
     list: &[u8],
     before: Side,
@@ -167,10 +175,10 @@ fn write_spans(
     other_lines: &[u8],
     other_pages: &[u8],
     out: &mut [u8],
-) {
-    let mut k = 0;
-    while k < count {
+) -> io::Result<()> {
+    for k in 0..count {
         write_span(
+            writer,
             list,
             k,
             before,
@@ -182,13 +190,14 @@ fn write_spans(
             other_lines,
             other_pages,
             out,
-        );
-        k += 1;
+        )?;
     }
+    Ok(())
 }
 
 // Compares the lent parts of both books, and writes every span.
-fn write_differences(
+fn write_differences<W: Write>(
+    writer: &mut W,
     before: Side,
     text: &[u8],
     lines: &[u8],
@@ -199,7 +208,7 @@ fn write_differences(
     other_pages: &[u8],
     list: &mut [u8],
     out: &mut [u8],
-) {
+) -> io::Result<()> {
     let found = differs::differ(
         before.file,
         after.file,
@@ -214,14 +223,13 @@ fn write_differences(
         list,
     );
     if found.number != 0 {
-        write_refused(found.number);
-        return;
+        return write_refused(writer, found.number);
     }
     if found.count == 0 {
-        io::write_all(STDOUT_FILENO, b"nothing differs\n");
-        return;
+        return writer.write_all(b"nothing differs\n");
     }
     write_spans(
+        writer,
         found.count,
         list,
         before,
@@ -233,11 +241,12 @@ fn write_differences(
         other_lines,
         other_pages,
         out,
-    );
+    )
 }
 
 // Compares the first sides, each over the parts that its scene lends.
-fn compare_lent(
+fn compare_lent<W: Write>(
+    writer: &mut W,
     before: Side,
     text: &[u8],
     lines: &[u8],
@@ -248,7 +257,7 @@ fn compare_lent(
     other_pages: &[u8],
     list: &mut [u8],
     out: &mut [u8],
-) {
+) -> io::Result<()> {
     let t = console::least(before.text, text.len());
     let l = console::least(before.lines, lines.len());
     let p = console::least(before.pages, pages.len());
@@ -256,6 +265,7 @@ fn compare_lent(
     let other_l = console::least(after.lines, other_lines.len());
     let other_p = console::least(after.pages, other_pages.len());
     write_differences(
+        writer,
         before,
         &text[0..t],
         &lines[0..l],
@@ -266,15 +276,12 @@ fn compare_lent(
         &other_pages[0..other_p],
         list,
         out,
-    );
+    )
 }
 
 // Says how the program is started.
-fn write_usage() {
-    io::write_all(
-        STDERR_FILENO,
-        b"usage: differ BEFORE AFTER, two scripts as replay plays them\n",
-    );
+fn write_usage<E: Write>(complaints: &mut E) -> io::Result<()> {
+    complaints.write_all(b"usage: differ BEFORE AFTER, two scripts as replay plays them\n")
 }
 
 // The scene that a script left, where the script could be read.
@@ -284,17 +291,52 @@ struct Left {
     there: bool,
 }
 
+// The words of an error of the system, without the number that stands in parentheses after them: how many bytes they have.
+fn error_words(error: io::Error, words: &mut [u8]) -> io::Result<usize>
+    ensures { IfOk result (λ n. n ≤ length words.new) }
+{
+    let size = words.len();
+    let mut room = io::Cursor::new(&mut *words);
+    write!(room, "{error}")?;
+    let number = console::find(words, 0, size, 40);
+    Ok(places::previous(number))
+}
+
 // Says which script cannot be read, and why.
-fn not_there(name: &[u8]) -> Left {
-    os::fail(name);
-    Left {
+fn not_there<E: Write>(complaints: &mut E, name: &[u8], error: io::Error) -> io::Result<Left> {
+    let mut words = [0u8; 512];
+    let n = error_words(error, &mut words)?;
+    complaints.write_all(name)?;
+    complaints.write_all(b": ")?;
+    complaints.write_all(&words[0..n])?;
+    complaints.write_all(b"\n")?;
+    Ok(Left {
         scene: scenes::first_scene(),
         there: false,
+    })
+}
+
+// Opens a script by its name, which the library takes as text alone: of any other bytes it says what the system does.
+fn open_script<R: Files>(rt: &R, name: &[u8]) -> io::Result<R::File> {
+    match str::from_utf8(name) {
+        Ok(path) => open_readable(rt, path),
+        Err(_) => Err(io::Error::from_raw_os_error(84)),
     }
 }
 
+// Opens a file that can be read: a folder can be opened and not read.
+fn open_readable<R: Files>(rt: &R, path: &str) -> io::Result<R::File> {
+    let mut source = File::open(rt, path)?;
+    let mut none = [0u8; 0];
+    source.read(&mut none)?;
+    Ok(source)
+}
+
 // Plays a script by its name, in silence but for lines that cannot be read.
-fn play_named(
+fn play_named<R: Files, W: Write, E: Write>(
+    rt: &R,
+    writer: &mut W,
+    complaints: &mut E,
     name: &[u8],
     chunk: &mut [u8],
     line: &mut [u8],
@@ -308,18 +350,14 @@ fn play_named(
     other_pages: &mut [u8],
     row: &mut [u32],
     out: &mut [u8],
-) -> Left {
-    let source = os::open_read(name);
-    if source < 0 {
-        return not_there(name);
-    }
-    // a folder can be opened and not read
-    let mut none = [0u8; 0];
-    if libc::read(source, &mut none) < 0 {
-        return not_there(name);
-    }
+) -> io::Result<Left> {
+    let mut source = match open_script(rt, name) {
+        Ok(source) => source,
+        Err(error) => return not_there(complaints, name, error),
+    };
     let scene = plays::play_all(
-        source,
+        &mut source,
+        writer,
         name,
         false,
         chunk,
@@ -334,16 +372,38 @@ fn play_named(
         other_pages,
         row,
         out,
-    );
-    libc::close(source);
-    Left {
+    )?;
+    Ok(Left {
         scene: scene,
         there: true,
+    })
+}
+
+// Whether the program was started with an argument of a number; that of its own name is 0.
+fn is_given<R: Env>(rt: &R, argument: usize) -> bool {
+    let mut none = [0u8; 0];
+    match rt.arg(argument, &mut none) {
+        Ok(_) => true,
+        Err(FillError::TooLong) => true,
+        Err(FillError::NotPresent) => false,
+    }
+}
+
+// An argument, as far as it goes: how many bytes it has, none where it does not fit.
+fn read_argument<R: Env>(rt: &R, argument: usize, path: &mut [u8]) -> usize
+    ensures { result ≤ length path.new }
+{
+    match rt.arg(argument, path) {
+        Ok(n) => n,
+        Err(_) => 0,
     }
 }
 
 // Plays the script that an argument names.
-fn play_script(
+fn play_script<R: Files + Env, W: Write, E: Write>(
+    rt: &R,
+    writer: &mut W,
+    complaints: &mut E,
     argument: usize,
     chunk: &mut [u8],
     line: &mut [u8],
@@ -357,10 +417,13 @@ fn play_script(
     other_pages: &mut [u8],
     row: &mut [u32],
     out: &mut [u8],
-) -> Left {
+) -> io::Result<Left> {
     let mut path = [0u8; 4096];
-    let n = os::arg(argument, &mut path);
+    let n = read_argument(rt, argument, &mut path);
     play_named(
+        rt,
+        writer,
+        complaints,
         &path[0..n],
         chunk,
         line,
@@ -378,7 +441,8 @@ fn play_script(
 }
 
 // Compares a first side with the first side of a scene, which may have the second set of buffers.
-fn compare_with(
+fn compare_with<W: Write>(
+    writer: &mut W,
     before: Side,
     text: &[u8],
     lines: &[u8],
@@ -392,10 +456,11 @@ fn compare_with(
     after_other_pages: &[u8],
     list: &mut [u8],
     out: &mut [u8],
-) {
+) -> io::Result<()> {
     let side = after.first;
     if after.swapped {
-        compare_lent(
+        return compare_lent(
+            writer,
             before,
             text,
             lines,
@@ -407,9 +472,9 @@ fn compare_with(
             list,
             out,
         );
-        return;
     }
     compare_lent(
+        writer,
         before,
         text,
         lines,
@@ -420,11 +485,14 @@ fn compare_with(
         after_pages,
         list,
         out,
-    );
+    )
 }
 
 // Plays both scripts, and compares what they leave.
-fn compare(
+fn compare<R: Files + Env, W: Write, E: Write>(
+    rt: &R,
+    writer: &mut W,
+    complaints: &mut E,
     chunk: &mut [u8],
     line: &mut [u8],
     bytes: &mut [u8],
@@ -444,8 +512,11 @@ fn compare(
     row: &mut [u32],
     list: &mut [u8],
     out: &mut [u8],
-) {
+) -> io::Result<()> {
     let before = play_script(
+        rt,
+        writer,
+        complaints,
         1,
         chunk,
         line,
@@ -459,11 +530,14 @@ fn compare(
         other_pages,
         row,
         out,
-    );
+    )?;
     if !before.there {
-        return;
+        return Ok(());
     }
     let after = play_script(
+        rt,
+        writer,
+        complaints,
         2,
         chunk,
         line,
@@ -477,13 +551,14 @@ fn compare(
         after_other_pages,
         row,
         out,
-    );
+    )?;
     if !after.there {
-        return;
+        return Ok(());
     }
     let side = before.scene.first;
     if before.scene.swapped {
-        compare_with(
+        return compare_with(
+            writer,
             side,
             other_text,
             other_lines,
@@ -498,9 +573,9 @@ fn compare(
             list,
             out,
         );
-        return;
     }
     compare_with(
+        writer,
         side,
         text,
         lines,
@@ -514,15 +589,19 @@ fn compare(
         after_other_pages,
         list,
         out,
-    );
+    )
 }
 
-fn main() {
-    if os::arg_count() != 3 {
-        write_usage();
-        return;
+fn main(rt: HostRuntime) -> io::Result<()> {
+    let mut writer = rt.stdout();
+    let mut complaints = rt.stderr();
+    if !is_given(&rt, 2) {
+        return write_usage(&mut complaints);
     }
-    let mut chunk = io::large_buffer();
+    if is_given(&rt, 3) {
+        return write_usage(&mut complaints);
+    }
+    let mut chunk = [0u8; 65536];
     let mut line = [0u8; 140000];
     let mut bytes = [0u8; 70000];
     let mut output = [0u8; 16384];
@@ -542,6 +621,9 @@ fn main() {
     let mut list = [0u8; 280000];
     let mut out = [0u8; 150000];
     compare(
+        &rt,
+        &mut writer,
+        &mut complaints,
         &mut chunk,
         &mut line,
         &mut bytes,
@@ -561,5 +643,5 @@ fn main() {
         &mut row,
         &mut list,
         &mut out,
-    );
+    )
 }

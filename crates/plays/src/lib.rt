@@ -3,29 +3,37 @@
 
 ghost use Rattle.std.specs.Prelude.{◌≡◌, length};
 
-use libc::STDOUT_FILENO;
 use scenes::{Played, Scene};
+use std::io;
+use std::io::{Read, Write};
 
 // Says which line of a script cannot be read; a script that has no name is the only one.
-pub fn write_bad(name: &[u8], number: u64) {
+pub fn write_bad<W: Write>(writer: &mut W, name: &[u8], number: u64) -> io::Result<()> {
     if 0 < name.len() {
-        io::write_all(STDOUT_FILENO, name);
-        io::write_all(STDOUT_FILENO, b": ");
+        writer.write_all(name)?;
+        writer.write_all(b": ")?;
     }
-    io::write_all(STDOUT_FILENO, b"bad line ");
-    io::print_decimal(STDOUT_FILENO, number);
-    io::write_all(STDOUT_FILENO, b"\n");
+    writer.write_all(b"bad line ")?;
+    console::write_decimal(writer, number)?;
+    writer.write_all(b"\n")
 }
 
 // Writes what a line made, where that is asked for, or that it cannot be read.
-pub fn write_played(name: &[u8], aloud: bool, number: u64, played: Played, out: &[u8]) {
+pub fn write_played<W: Write>(
+    writer: &mut W,
+    name: &[u8],
+    aloud: bool,
+    number: u64,
+    played: Played,
+    out: &[u8],
+) -> io::Result<()> {
     if !played.good {
-        write_bad(name, number);
-        return;
+        return write_bad(writer, name, number);
     }
     if aloud {
-        console::write_out(out, played.count);
+        return console::write_out(writer, out, played.count);
     }
+    Ok(())
 }
 
 // Plays a line that is there and fits the buffer: an empty one and a comment do nothing.
@@ -109,10 +117,10 @@ pub fn one_more(number: u64) -> u64 {
     }
 }
 
-// Plays every line of a source, and hands back the scene that is left. The loop counts its turns down, from a number that no script
-// uses up.
-pub fn play_all(
-    source: i32,
+// Plays every line of a source, and hands back the scene that is left. The loop takes a number of turns that no script uses up.
+pub fn play_all<R: Read, W: Write>(
+    source: &mut R,
+    writer: &mut W,
     name: &[u8],
     aloud: bool,
     chunk: &mut [u8],
@@ -127,18 +135,16 @@ pub fn play_all(
     other_pages: &mut [u8],
     row: &mut [u32],
     out: &mut [u8],
-) -> Scene {
-    let mut turns = u64::MAX;
+) -> io::Result<Scene> {
     let mut scene = scenes::first_scene();
-    let mut at = feed::unread(source);
+    let mut at = feed::unread();
     let mut number: u64 = 0;
-    while 0 < turns {
-        let read = feed::next_line(chunk, at, line);
+    for _ in 0..u64::MAX {
+        let read = feed::next_line(source, chunk, at, line)?;
         at = read.feed;
         if !read.there {
-            return scene;
+            return Ok(scene);
         }
-        turns -= 1;
         number = one_more(number);
         let played = play_buffer(
             scene,
@@ -155,8 +161,8 @@ pub fn play_all(
             row,
             out,
         );
-        write_played(name, aloud, number, played, out);
+        write_played(writer, name, aloud, number, played, out)?;
         scene = played.scene;
     }
-    scene
+    Ok(scene)
 }

@@ -1,10 +1,12 @@
 // Plays a script of calls from standard input and writes what each one did.
 #![tactic(auto)]
 
-use libc::STDIN_FILENO;
+use std::io;
 
-fn main() {
-    let mut chunk = io::large_buffer();
+fn main(rt: HostRuntime) -> io::Result<()> {
+    let mut input = rt.stdin();
+    let mut writer = rt.stdout();
+    let mut chunk = [0u8; 65536];
     let mut line = [0u8; 140000];
     let mut bytes = [0u8; 70000];
     let mut output = [0u8; 16384];
@@ -17,7 +19,8 @@ fn main() {
     let mut row = [0u32; 80];
     let mut out = [0u8; 150000];
     plays::play_all(
-        STDIN_FILENO,
+        &mut input,
+        &mut writer,
         b"",
         true,
         &mut chunk,
@@ -32,5 +35,6 @@ fn main() {
         &mut other_pages,
         &mut row,
         &mut out,
-    );
+    )?;
+    Ok(())
 }

@@ -95,107 +95,111 @@ pub fn bad_line(scene: Scene) -> Played {
 
 // The calls that are one word: 1 to 10, split 32 and fit 33; dump is 31.
 pub fn short_command(name: &[u8]) -> u8 {
-    if check::same(name, b"establish") {
+    if console::same(name, b"establish") {
         return 1;
     }
-    if check::same(name, b"open") {
+    if console::same(name, b"open") {
         return 2;
     }
-    if check::same(name, b"close") {
+    if console::same(name, b"close") {
         return 3;
     }
-    if check::same(name, b"reset") {
+    if console::same(name, b"reset") {
         return 4;
     }
-    if check::same(name, b"backspace") {
+    if console::same(name, b"backspace") {
         return 5;
     }
-    if check::same(name, b"getc") {
+    if console::same(name, b"getc") {
         return 6;
     }
-    if check::same(name, b"geti") {
+    if console::same(name, b"geti") {
         return 7;
     }
-    if check::same(name, b"space") {
+    if console::same(name, b"space") {
         return 8;
     }
-    if check::same(name, b"newline") {
+    if console::same(name, b"newline") {
         return 9;
     }
-    if check::same(name, b"newpage") {
+    if console::same(name, b"newpage") {
         return 10;
     }
-    if check::same(name, b"split") {
+    if console::same(name, b"split") {
         return 32;
     }
-    if check::same(name, b"fit") {
+    if console::same(name, b"fit") {
         return 33;
     }
-    if check::same(name, b"dump") { 31 } else { 0 }
+    if console::same(name, b"dump") { 31 } else { 0 }
 }
 
 // The calls that take arguments: 11 to 19.
 pub fn long_command(name: &[u8]) -> u8 {
-    if check::same(name, b"putc") {
+    if console::same(name, b"putc") {
         return 11;
     }
-    if check::same(name, b"puts") {
+    if console::same(name, b"puts") {
         return 12;
     }
-    if check::same(name, b"puti") {
+    if console::same(name, b"puti") {
         return 13;
     }
-    if check::same(name, b"setc") {
+    if console::same(name, b"setc") {
         return 14;
     }
-    if check::same(name, b"gets") {
+    if console::same(name, b"gets") {
         return 15;
     }
-    if check::same(name, b"set") {
+    if console::same(name, b"set") {
         return 16;
     }
-    if check::same(name, b"view") {
+    if console::same(name, b"view") {
         return 17;
     }
-    if check::same(name, b"whole") {
+    if console::same(name, b"whole") {
         return 18;
     }
-    if check::same(name, b"differ") { 19 } else { 0 }
+    if console::same(name, b"differ") {
+        19
+    } else {
+        0
+    }
 }
 
 // The lines that set the scene: 20 to 30.
 pub fn scene_command(name: &[u8]) -> u8 {
-    if check::same(name, b"shape") {
+    if console::same(name, b"shape") {
         return 20;
     }
-    if check::same(name, b"lend") {
+    if console::same(name, b"lend") {
         return 21;
     }
-    if check::same(name, b"rights") {
+    if console::same(name, b"rights") {
         return 22;
     }
-    if check::same(name, b"record") {
+    if console::same(name, b"record") {
         return 23;
     }
-    if check::same(name, b"end") {
+    if console::same(name, b"end") {
         return 24;
     }
-    if check::same(name, b"fill") {
+    if console::same(name, b"fill") {
         return 25;
     }
-    if check::same(name, b"text") {
+    if console::same(name, b"text") {
         return 26;
     }
-    if check::same(name, b"lines") {
+    if console::same(name, b"lines") {
         return 27;
     }
-    if check::same(name, b"pages") {
+    if console::same(name, b"pages") {
         return 28;
     }
-    if check::same(name, b"row") {
+    if console::same(name, b"row") {
         return 29;
     }
-    if check::same(name, b"swap") { 30 } else { 0 }
+    if console::same(name, b"swap") { 30 } else { 0 }
 }
 
 // Whether a command sets the scene.
@@ -589,7 +593,7 @@ pub fn set_rights(scene: Scene, word: &[u8]) -> Played {
     x.first.file.rights.set = set;
     x.first.file.rights.reset = reset;
     x.first.file.rights.compress = compress;
-    if check::same(word, b"-") {
+    if console::same(word, b"-") {
         return scene_set(x);
     }
     if word.len() == 0 {

@@ -2,8 +2,9 @@
 // `G` newpage.
 #![tactic(auto)]
 
-use libc::{STDIN_FILENO, STDOUT_FILENO};
 use rules::{File, Position, Reply};
+use std::io;
+use std::io::{Read, Write};
 
 // Whether a line is "S ", and what follows.
 fn is_text(line: &[u8]) -> bool {
@@ -27,35 +28,37 @@ fn play(
         let from = console::least(2, line.len());
         return puts::put_string(file, end, &line[from..line.len()], text, lines, pages, row);
     }
-    if check::same(line, b"N") {
+    if console::same(line, b"N") {
         return layout::newline(file, end, text, lines, pages, row);
     }
-    if check::same(line, b"G") {
+    if console::same(line, b"G") {
         return layout::newpage(file, end, text, lines, pages, row);
     }
     entry::refuse(entry::start(file, end), 6)
 }
 
 // Says that a call was refused, and its number.
-fn write_refused(number: u8) {
+fn write_refused<W: Write>(writer: &mut W, number: u8) -> io::Result<()> {
     if number != 0 {
-        io::write_all(STDOUT_FILENO, b"refused ");
-        io::print_decimal(STDOUT_FILENO, number as u64);
-        io::write_all(STDOUT_FILENO, b"\n");
+        writer.write_all(b"refused ")?;
+        console::write_decimal(writer, number as u64)?;
+        writer.write_all(b"\n")?;
     }
+    Ok(())
 }
 
 // Three numbers and a blank after each.
-fn write_numbers(a: usize, b: usize, c: usize) {
-    io::print_decimal(STDOUT_FILENO, a as u64);
-    io::write_all(STDOUT_FILENO, b" ");
-    io::print_decimal(STDOUT_FILENO, b as u64);
-    io::write_all(STDOUT_FILENO, b" ");
-    io::print_decimal(STDOUT_FILENO, c as u64);
+fn write_numbers<W: Write>(writer: &mut W, a: usize, b: usize, c: usize) -> io::Result<()> {
+    console::write_decimal(writer, a as u64)?;
+    writer.write_all(b" ")?;
+    console::write_decimal(writer, b as u64)?;
+    writer.write_all(b" ")?;
+    console::write_decimal(writer, c as u64)
 }
 
 // Shows a line, if it is shown: page, line, how many characters, and the characters or the marker.
-fn write_line<'a>(
+fn write_line<'a, W: Write>(
+    writer: &mut W,
     page: usize,
     line: usize,
     file: File,
@@ -64,42 +67,53 @@ fn write_line<'a>(
     lines: &[u8],
     pages: &[u8],
     marker: &'a [u8],
-) {
+) -> io::Result<()> {
     let asked = views::view_number(file, end, page, line, text, lines, pages);
     let given = asked.given;
     if shows::number_of(given) != 0 {
-        return;
+        return Ok(());
     }
     let stored = views::line_view(file, end, page, line, text, lines, pages, &text[0..0]);
     let part = views::line_view(file, end, page, line, text, lines, pages, marker);
-    write_numbers(page, line, stored.len());
-    io::write_all(STDOUT_FILENO, b" ");
-    io::write_all(STDOUT_FILENO, part);
-    io::write_all(STDOUT_FILENO, b"\n");
+    write_numbers(writer, page, line, stored.len())?;
+    writer.write_all(b" ")?;
+    writer.write_all(part)?;
+    writer.write_all(b"\n")
 }
 
 // Shows every shown line, and the logical end.
-fn write_book<'a>(
+fn write_book<'a, W: Write>(
+    writer: &mut W,
     file: File,
     end: Position,
     text: &'a [u8],
     lines: &[u8],
     pages: &[u8],
     marker: &'a [u8],
-) {
-    let mut i = 0;
-    while i < 6 {
-        write_line(i / 3 + 1, i % 3 + 1, file, end, text, lines, pages, marker);
-        i += 1;
+) -> io::Result<()> {
+    for i in 0..6usize {
+        write_line(
+            writer,
+            i / 3 + 1,
+            i % 3 + 1,
+            file,
+            end,
+            text,
+            lines,
+            pages,
+            marker,
+        )?;
     }
-    io::write_all(STDOUT_FILENO, b"end ");
-    write_numbers(end.page, end.line, end.character);
-    io::write_all(STDOUT_FILENO, b"\n");
+    writer.write_all(b"end ")?;
+    write_numbers(writer, end.page, end.line, end.character)?;
+    writer.write_all(b"\n")
 }
 
-// Plays the whole input. A longer line than the buffer is cut: its put is refused before the cut. The loop counts its turns down,
-// from a number that no input uses up.
-fn play_all(
+// Plays the whole input. A longer line than the buffer is cut: its put is refused before the cut. The loop takes a number of turns
+// that no input uses up.
+fn play_all<R: Read, W: Write>(
+    source: &mut R,
+    writer: &mut W,
     first: Reply,
     chunk: &mut [u8],
     line: &mut [u8],
@@ -107,30 +121,30 @@ fn play_all(
     lines: &mut [u8],
     pages: &mut [u8],
     row: &[u32],
-) -> Reply {
-    let mut turns = u64::MAX;
+) -> io::Result<Reply> {
     let mut last = first;
-    let mut at = feed::unread(STDIN_FILENO);
-    while 0 < turns {
-        let read = feed::next_line(chunk, at, line);
+    let mut at = feed::unread();
+    for _ in 0..u64::MAX {
+        let read = feed::next_line(source, chunk, at, line)?;
         at = read.feed;
         if !read.there {
-            return last;
+            return Ok(last);
         }
-        turns -= 1;
         let count = console::least(read.count, line.len());
         let file = last.file;
         let end = last.end;
         last = play(&line[0..count], file, end, text, lines, pages, row);
         let given = last.given;
-        write_refused(shows::number_of(given));
+        write_refused(writer, shows::number_of(given))?;
     }
-    last
+    Ok(last)
 }
 
-fn main() {
-    let mut chunk = io::large_buffer();
-    let mut line = io::buffer();
+fn main(rt: HostRuntime) -> io::Result<()> {
+    let mut input = rt.stdin();
+    let mut writer = rt.stdout();
+    let mut chunk = [0u8; 65536];
+    let mut line = [0u8; 4096];
     let mut text = [0u8; 48];
     let mut lines = [0u8; 6];
     let mut pages = [0u8; 2];
@@ -140,9 +154,25 @@ fn main() {
     let end = side.end;
     let first = plain::establish(file, end, &text, &mut lines, &mut pages);
     let last = play_all(
-        first, &mut chunk, &mut line, &mut text, &mut lines, &mut pages, &row,
-    );
+        &mut input,
+        &mut writer,
+        first,
+        &mut chunk,
+        &mut line,
+        &mut text,
+        &mut lines,
+        &mut pages,
+        &row,
+    )?;
     let left = last.file;
     let reached = last.end;
-    write_book(left, reached, &text, &lines, &pages, b"(blank)");
+    write_book(
+        &mut writer,
+        left,
+        reached,
+        &text,
+        &lines,
+        &pages,
+        b"(blank)",
+    )
 }
