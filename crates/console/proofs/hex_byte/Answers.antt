@@ -1,7 +1,5 @@
-use borrow.Author.Rules.{rules}
 use native.Mathlib.Omega.{arith}
 use lib.Bits.{and_le_r}
-use Prim.Native.Nat.{◌-◌}
 use Rattle.console.proofs.hex_byte.Goals as goal
 
 pub overflow_mul-result : goal.overflow_mul-result

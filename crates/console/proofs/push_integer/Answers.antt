@@ -1,6 +1,4 @@
-use borrow.Author.Rules.{rules}
 use native.Mathlib.Omega.{arith}
-use Prim.Native.Nat.{◌-◌}
 use Rattle.whole.proofs.Signed.{not_lowest, read_absolute}
 use Rattle.console.proofs.push_integer.Goals as goal
 

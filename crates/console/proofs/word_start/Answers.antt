@@ -1,7 +1,4 @@
-use borrow.Author.Rules.{rules}
 use native.Mathlib.Omega.{arith}
-use lib.ListN.{length}
-use Prim.Native.Nat.{◌≤◌, ◌-◌}
 use Rattle.console.proofs.word_start.Goals as goal
 
 pub returns-then-left-eq0 : goal.returns-then-left-eq0
