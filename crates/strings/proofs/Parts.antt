@@ -24,7 +24,7 @@ use Rattle.laws.proofs.Gets as gets
 use Rattle.lines.proofs.Good.{good_facts}
 use Rattle.turns.specs.Turns.{turns_here}
 use Rattle.turns.proofs.Turning.{turns_facts, turn_reading, turn_writing, line_again, put_again, puts_again, gets_again}
-use Rattle.strings.specs.Parts.{Room, Put, Got}
+use Rattle.strings.specs.Parts.{Room, PutOn, GotOn}
 
 pick_true : {A : Type 0} {b : Bool} (x y : A) → b ≡ true → choose b x y ≡ x
 pick_true x y e = ap (λ (b : Bool). choose b x y) e
@@ -82,7 +82,7 @@ module _ (row : List ℕ) (action : Action) (s : State) {n : ℕ} (m : 0 < n) wh
 -- ---- put
 
 module _ (row bytes : List ℕ) (i : ℕ) (s : State) (t : List ℕ) (rd : Ready row (put_character true 0) s) (h : i < length bytes) where
-  pub put_one : {b : ℕ} → b ≡ get_or bytes i 0 → (o : Outcome) (t' l' p' : List ℕ) → outcome o t' l' p' ≡ execute row (put_character true b) s t → Put row bytes i s t o 1 t' l' p'
+  pub put_one : {b : ℕ} → b ≡ get_or bytes i 0 → (o : Outcome) (t' l' p' : List ℕ) → outcome o t' l' p' ≡ execute row (put_character true b) s t → PutOn row bytes i s t o 1 t' l' p'
   put_one e o t' l' p' c = record {
     same = split (going o.status)
         (λ g. left_one row bytes true i s t rd h e (reached o c g) ∙ sym (pick_true _ _ g))
@@ -93,13 +93,13 @@ module _ (row bytes : List ℕ) (i : ℕ) (s : State) (t : List ℕ) (rd : Ready
   }
 
   pub put_more : {size room limit n : ℕ} → Room false s size room → limit ≤ room → limit ≤ length bytes - i → n ≤ limit → every printable (take n (drop i bytes)) ≡ true → (n ≡ 0 → ⊥)
-      → {at : ℕ} → at ≡ character_index (shape_of s) (here s) → {y : Run} {t' l' p' : List ℕ} {o : Outcome} → state y l' p' ≡ stored_by n s → t' ≡ sets t at (take n (drop i bytes)) → o ≡ done_by y → Put row bytes i s t o n t' l' p'
+      → {at : ℕ} → at ≡ character_index (shape_of s) (here s) → {y : Run} {t' l' p' : List ℕ} {o : Outcome} → state y l' p' ≡ stored_by n s → t' ≡ sets t at (take n (drop i bytes)) → o ≡ done_by y → PutOn row bytes i s t o n t' l' p'
   put_more {n = n} r a b k p z e {t' = t'} {l' = l'} {p' = p'} hy ht ho =
       let m : 0 < n = some_of n z in
       let x = left_run row bytes true i s t rd m
       (record { there = omega (arith, b, k); good = good_facts false s (r.good (omega (arith, a, k, m))); room = omega (arith, r.line, a, k); plain = p })
       hy (ht ∙ ap (λ (j : ℕ). sets t j (take n (drop i bytes))) e) in
-      subst (λ (o : Outcome). Put row bytes i s t o n t' l' p') (sym ho)
+      subst (λ (o : Outcome). PutOn row bytes i s t o n t' l' p') (sym ho)
       (record { same = x.0; ready = λ _. x.1; less = λ _. stored_less row (put_character true 0) s m x.1 hy; within = omega (arith, b, k) })
 
   -- a turn to the next line
@@ -119,7 +119,7 @@ module _ (row bytes : List ℕ) (i : ℕ) (s : State) (t : List ℕ) (rd : Ready
       )
 
 -- the two ways on from a part
-module _ {row bytes : List ℕ} {i : ℕ} {s : State} {t : List ℕ} {o : Outcome} {n : ℕ} {t' l' p' : List ℕ} (x : Put row bytes i s t o n t' l' p') where
+module _ {row bytes : List ℕ} {i : ℕ} {s : State} {t : List ℕ} {o : Outcome} {n : ℕ} {t' l' p' : List ℕ} (x : PutOn row bytes i s t o n t' l' p') where
   pub put_goes : going o.status ≡ true → put_characters row true (drop i bytes) s t ≡ put_characters row true (drop (i + n) bytes) (state o.run l' p') t'
   put_goes g = x.same ∙ pick_true _ _ g
 
@@ -129,7 +129,7 @@ module _ {row bytes : List ℕ} {i : ℕ} {s : State} {t : List ℕ} {o : Outcom
 -- ---- get
 
 module _ (row terminators output : List ℕ) (i : ℕ) (s : State) (t : List ℕ) (rd : Ready row pass_blanks s) (h : i < length output) where
-  pub got_none : (b : ℕ) (o : Outcome) (t' l' p' : List ℕ) → outcome_giving b o t' l' p' ≡ string_character row terminators s t → going o.status ≡ false → Got row terminators output i s t o 0 output t' l' p'
+  pub got_none : (b : ℕ) (o : Outcome) (t' l' p' : List ℕ) → outcome_giving b o t' l' p' ≡ string_character row terminators s t → going o.status ≡ false → GotOn row terminators output i s t o 0 output t' l' p'
   got_none b o t' l' p' c g =
       let z : i ≡ i + 0 = omega arith in
       record {
@@ -143,7 +143,7 @@ module _ (row terminators output : List ℕ) (i : ℕ) (s : State) (t : List ℕ
       no : true ≡ false → ⊥
       no p = let o : ◌≡◌ {A = ℕ} 0 1 = cc in omega arith
 
-  pub got_one : (b : ℕ) (o : Outcome) (t' l' p' : List ℕ) → outcome_giving b o t' l' p' ≡ string_character row terminators s t → going o.status ≡ true → {output' : List ℕ} → output' ≡ set output i b → Got row terminators output i s t o 1 output' t' l' p'
+  pub got_one : (b : ℕ) (o : Outcome) (t' l' p' : List ℕ) → outcome_giving b o t' l' p' ≡ string_character row terminators s t → going o.status ≡ true → {output' : List ℕ} → output' ≡ set output i b → GotOn row terminators output i s t o 1 output' t' l' p'
   got_one b o t' l' p' c g {output'} e = record {
     same = gets.left_one row terminators (length output) i output s t h (gives b o c g) h e ∙ sym (pick_true _ _ g);
     ready = λ _. gets.string_ready row terminators s t rd (gives b o c g);
@@ -153,14 +153,14 @@ module _ (row terminators output : List ℕ) (i : ℕ) (s : State) (t : List ℕ
   }
 
   pub got_more : {room limit n : ℕ} → Room true s (length t) room → limit ≤ room → limit ≤ length output - i → n ≤ limit → {at : ℕ} → at ≡ character_index (shape_of s) (here s) → every (ordinary terminators) (take n (drop at t)) ≡ true → (n ≡ 0 → ⊥)
-      → {y : Run} {output' : List ℕ} {o : Outcome} → y ≡ moved_to s.run (on_by n (here s)) → output' ≡ sets output i (take n (drop at t)) → o ≡ done_by y → Got row terminators output i s t o n output' t s.lengths.lines s.lengths.pages
+      → {y : Run} {output' : List ℕ} {o : Outcome} → y ≡ moved_to s.run (on_by n (here s)) → output' ≡ sets output i (take n (drop at t)) → o ≡ done_by y → GotOn row terminators output i s t o n output' t s.lengths.lines s.lengths.pages
   got_more {n = n} r a b k {at} e p z {y} {output'} {o} hy ho hx =
       let m : 0 < n = some_of n z in
       let g = good_facts true s (r.good (omega (arith, a, k, m))) in
       let x = gets.left_run row terminators (length output) i output s t rd m (omega (arith, b, k)) (omega (arith, b, k))
       (record { before = record { page = g.0; line = omega (arith, r.line, a, k); end = omega (arith, r.end refl, a, k) }; there = omega (arith, r.there, a, k); plain = ap (λ (j : ℕ). every (ordinary terminators) (take n (drop j t))) (sym e) ∙ p })
       hy (ho ∙ ap (λ (j : ℕ). sets output i (take n (drop j t))) e) in
-      subst (λ (o : Outcome). Got row terminators output i s t o n output' t s.lengths.lines s.lengths.pages) (sym hx)
+      subst (λ (o : Outcome). GotOn row terminators output i s t o n output' t s.lengths.lines s.lengths.pages) (sym hx)
       (record { same = x.0; ready = λ _. x.1; less = λ _. moved_less row pass_blanks s m x.1 hy; within = omega (arith, b, k); untouched = ap (drop (i + n)) ho ∙ past_sets (take n (drop at t)) output i (i + n) (simp length-take (omega arith)) })
 
   -- a turn to the next line
@@ -178,7 +178,7 @@ module _ (row terminators output : List ℕ) (i : ℕ) (s : State) (t : List ℕ
         (site_later row pass_blanks s rd pass_blanks u d.valid d.took d.claim).1,
       )
 
-module _ {row terminators output : List ℕ} {i : ℕ} {s : State} {t : List ℕ} {o : Outcome} {n : ℕ} {output' t' l' p' : List ℕ} (x : Got row terminators output i s t o n output' t' l' p') where
+module _ {row terminators output : List ℕ} {i : ℕ} {s : State} {t : List ℕ} {o : Outcome} {n : ℕ} {output' t' l' p' : List ℕ} (x : GotOn row terminators output i s t o n output' t' l' p') where
   pub got_goes : going o.status ≡ true → gets.left row terminators (length output) i output s t ≡ gets.left row terminators (length output) (i + n) output' (state o.run l' p') t'
   got_goes g = x.same ∙ pick_true _ _ g
 
@@ -217,7 +217,7 @@ module _ {row terminators output₀ : List ℕ} {s₀ : State} {t₀ output : Li
         x.2,
       )
 
-  module _ {o : Outcome} {n : ℕ} {output' t' l' p' : List ℕ} (x : Got row terminators output i s t o n output' t' l' p') where
+  module _ {o : Outcome} {n : ℕ} {output' t' l' p' : List ℕ} (x : GotOn row terminators output i s t o n output' t' l' p') where
     so_far : get_characters row terminators (length output₀) [] s₀ t₀ ≡ gets.left row terminators (length output) i output s t
     so_far = m.same ∙ ap (λ (k : ℕ). gets.left row terminators k i output s t) (sym m.size)
 

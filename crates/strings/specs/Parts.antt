@@ -28,15 +28,33 @@ pub record Takable (terminators : List ℕ) (s : State) (t : List ℕ) (limit n 
   pub most : n ≤ limit
   pub plain : every (ordinary terminators) (take n (drop (character_index (shape_of s) (here s)) t)) ≡ true
 
--- of a string of which i characters are put, n more are put, or its put ends; what goes on is nearer the end
+-- of a string of which i characters are put, n more are put, or its put ends
 pub record Put (row bytes : List ℕ) (i : ℕ) (s : State) (t : List ℕ) (o : Outcome) (n : ℕ) (t' l' p' : List ℕ) : Type 0 where
+  pub same : put_characters row true (drop i bytes) s t ≡ choose (going o.status) (put_characters row true (drop (i + n) bytes) (state o.run l' p') t') (ends (ending_by o) (state o.run l' p') t')
+  pub ready : going o.status ≡ true → Ready row (put_character true 0) (state o.run l' p')
+  pub some : 0 < n
+  pub within : i + n ≤ length bytes
+
+-- of a string of which i characters stand in the output, n more are got, or its get ends
+pub record Got (row terminators output : List ℕ) (i : ℕ) (s : State) (t : List ℕ) (o : Outcome) (n : ℕ) (output' t' l' p' : List ℕ) : Type 0 where
+  pub same : get_characters row terminators (length output - i) (take i output) s t
+      ≡ choose (going o.status) (get_characters row terminators (length output - (i + n)) (take (i + n) output') (state o.run l' p') t') (done (a_string (take (i + n) output') (ending_by o)) (state o.run l' p') t')
+  pub ready : going o.status ≡ true → Ready row pass_blanks (state o.run l' p')
+  pub some : going o.status ≡ true → 0 < n
+  pub within : i + n ≤ length output
+  pub untouched : drop (i + n) output' ≡ drop (i + n) output
+
+-- ---- the same with turns to the next line, at which no character is put or got
+
+-- of a string of which i characters are put, n more are put, or its put ends; what goes on is nearer the end
+pub record PutOn (row bytes : List ℕ) (i : ℕ) (s : State) (t : List ℕ) (o : Outcome) (n : ℕ) (t' l' p' : List ℕ) : Type 0 where
   pub same : put_characters row true (drop i bytes) s t ≡ choose (going o.status) (put_characters row true (drop (i + n) bytes) (state o.run l' p') t') (ends (ending_by o) (state o.run l' p') t')
   pub ready : going o.status ≡ true → Ready row (put_character true 0) (state o.run l' p')
   pub less : going o.status ≡ true → measure row (put_character true 0) (state o.run l' p') < measure row (put_character true 0) s
   pub within : i + n ≤ length bytes
 
 -- of a string of which i characters stand in the output, n more are got, or its get ends; what goes on is nearer the end
-pub record Got (row terminators output : List ℕ) (i : ℕ) (s : State) (t : List ℕ) (o : Outcome) (n : ℕ) (output' t' l' p' : List ℕ) : Type 0 where
+pub record GotOn (row terminators output : List ℕ) (i : ℕ) (s : State) (t : List ℕ) (o : Outcome) (n : ℕ) (output' t' l' p' : List ℕ) : Type 0 where
   pub same : get_characters row terminators (length output - i) (take i output) s t
       ≡ choose (going o.status) (get_characters row terminators (length output - (i + n)) (take (i + n) output') (state o.run l' p') t') (done (a_string (take (i + n) output') (ending_by o)) (state o.run l' p') t')
   pub ready : going o.status ≡ true → Ready row pass_blanks (state o.run l' p')

@@ -27,6 +27,13 @@ pub struct Delivered {
     pub count: usize,
 }
 
+// The lesser of two numbers.
+pub fn least(a: usize, b: usize) -> usize
+    ensures { (result ≤ a) × (result ≤ b) }
+{
+    stores::least(a, b)
+}
+
 // How many characters there are from the position on, if its line is good: on the line, and, reading, before the logical end.
 pub fn room_here(run: Run, reading: bool, text: &[u8], lines: &[u8], pages: &[u8]) -> usize
     requires { Valid (state run lines.now pages.now) }
@@ -43,13 +50,13 @@ pub fn room_here(run: Run, reading: bool, text: &[u8], lines: &[u8], pages: &[u8
     let at = places::character_index(shape, page, line, character);
     let there = stores::minus(text.len(), at);
     let rest = stores::minus(size + 1, character);
-    let room = stores::least(rest, there);
+    let room = least(rest, there);
     if !reading {
         return room;
     }
     if places::on_end_line(run) {
         let seen = stores::minus(run.end.character, character);
-        return stores::least(room, seen);
+        return least(room, seen);
     }
     room
 }
@@ -68,7 +75,7 @@ pub fn run_length(
     ensures { Storable (state run lines.now pages.now) (length text.now) bytes.now i result }
 {
     let room = room_here(run, false, text, lines, pages);
-    let limit = stores::least(room, bytes.len() - i);
+    let limit = least(room, bytes.len() - i);
     characters::printable_run(bytes, i, limit)
 }
 
@@ -205,7 +212,7 @@ pub fn ready_length(
     ensures { Takable terminators.now (state run lines.now pages.now) text.now limit result }
 {
     let room = room_here(run, true, text, lines, pages);
-    let most = stores::least(room, limit);
+    let most = least(room, limit);
     let shape = run.file.shape;
     let at = places::character_index(
         shape,

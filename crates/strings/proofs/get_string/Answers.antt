@@ -1,0 +1,96 @@
+use Rattle.strings.proofs.Parts.{some_of, run_short, run_there, got_none, got_one, got_more, Getting, getting_start, getting_turn, getting_stops, getting_more, getting_full}
+use borrow.Author.Rules.{rules}
+use borrow.Author.Tests.{not-true, not-false}
+use mathlib.Core.Path.{◌≡◌, refl, sym, ap, ◌∙◌}
+use native.Mathlib.Omega.{arith}
+use Prim.Native.Nat.{◌-◌, ◌≤◌, ◌+◌}
+use lib.ListN.{length, drop, length-set}
+use Rattle.rules.specs.Book.{state}
+use Rattle.rules.specs.Step.{done_by}
+use Rattle.rules.specs.Steps.{put_character, pass_blanks, measure}
+use Rattle.rules.specs.Ready.{Ready}
+use Rattle.rules.specs.Calls.{put_characters}
+use Rattle.laws.proofs.Progress.{events_small}
+use Rattle.laws.proofs.Runs.{any_character}
+use Rattle.laws.proofs.Ways.{hands_on, outcome_is}
+use Rattle.laws.proofs.Puts.{left_none}
+use Rattle.stores.proofs.Smalls.{here_small, end_small}
+use Rattle.strings.proofs.get_string.Goals as goal
+
+pub loop-i-init : goal.loop-i-init
+loop-i-init c = (getting_start c.args.terminators.now c.args.output.now c.args.text.now c.requires.ready, refl, refl, refl, refl)
+
+pub overflow_sub-output : goal.overflow_sub-output
+overflow_sub-output c = omega (arith, c.loop-i-test.true)
+
+pub ready_length-n-requires : goal.ready_length-n-requires
+ready_length-n-requires c = c.loop-i.invariant.0.ready.valid
+
+pub take_some-here-requires : goal.take_some-here-requires
+take_some-here-requires c = record { small_run = here_small c.loop-i.invariant.0.ready.valid; n_bound = (run_short c.loop-i.invariant.0.ready.valid c.ready_length-n.ensures.room (omega arith), run_there c.loop-i.invariant.0.ready.valid c.ready_length-n.ensures.room (omega arith) c.if-n-ne0.true refl, omega (arith, c.ready_length-n.ensures.most, c.loop-i-test.true)) }
+
+pub overflow_add-i : goal.overflow_add-i
+overflow_add-i c = omega (arith, c.ready_length-n.ensures.most, c.loop-i-test.true, c.well_formed)
+
+pub loop-i-smaller-then-n-ne0 : goal.loop-i-smaller-then-n-ne0
+loop-i-smaller-then-n-ne0 c = (got_more c.args.row.now c.args.terminators.now c.loop-i.output c.loop-i.i (state c.loop-i.here c.loop-i.lines c.loop-i.pages) c.loop-i.text c.loop-i.invariant.0.ready c.loop-i-test.true c.ready_length-n.ensures.room (omega arith) c.ready_length-n.ensures.most (omega arith) refl c.ready_length-n.ensures.plain c.if-n-ne0.true {o = done_by c.take_some-here.result} c.take_some-here.ensures.0 c.take_some-here.ensures.1 refl).less refl
+
+pub loop-i-preserved-then-n-ne0 : goal.loop-i-preserved-then-n-ne0
+loop-i-preserved-then-n-ne0 c = (getting_more c.loop-i.invariant.0 (got_more c.args.row.now c.args.terminators.now c.loop-i.output c.loop-i.i (state c.loop-i.here c.loop-i.lines c.loop-i.pages) c.loop-i.text c.loop-i.invariant.0.ready c.loop-i-test.true c.ready_length-n.ensures.room (omega arith) c.ready_length-n.ensures.most (omega arith) refl c.ready_length-n.ensures.plain c.if-n-ne0.true {o = done_by c.take_some-here.result} c.take_some-here.ensures.0 c.take_some-here.ensures.1 refl) c.take_some-here.auto.output refl, c.loop-i.invariant.1, c.loop-i.invariant.2, c.loop-i.invariant.3, c.take_some-here.auto.output ∙ c.loop-i.invariant.4)
+
+pub turns-requires : goal.turns-requires
+turns-requires c = (here_small c.loop-i.invariant.0.ready.valid).0
+
+pub turned_reading-here-requires : goal.turned_reading-here-requires
+turned_reading-here-requires c = (events_small c.args.row.now pass_blanks (state c.loop-i.here c.loop-i.lines c.loop-i.pages) c.loop-i.invariant.0.ready, (here_small c.loop-i.invariant.0.ready.valid).0.line_high)
+
+pub loop-i-smaller-then-turns : goal.loop-i-smaller-then-turns
+loop-i-smaller-then-turns c = (getting_turn c.loop-i.invariant.0 c.loop-i-test.true (sym c.turns.ensures ∙ c.if-turns.true) c.turned_reading-here.ensures).1
+
+pub loop-i-preserved-then-turns : goal.loop-i-preserved-then-turns
+loop-i-preserved-then-turns c = ((getting_turn c.loop-i.invariant.0 c.loop-i-test.true (sym c.turns.ensures ∙ c.if-turns.true) c.turned_reading-here.ensures).0, c.loop-i.invariant.1, c.loop-i.invariant.2, c.loop-i.invariant.3, c.loop-i.invariant.4)
+
+pub string_character-got-requires : goal.string_character-got-requires
+string_character-got-requires c = record { ready = c.loop-i.invariant.0.ready; t = c.requires.t }
+
+pub shape_of-output-then-not-goes_on : goal.shape_of-output-then-not-goes_on
+shape_of-output-then-not-goes_on c = c.loop-i.invariant.4
+
+pub shape_of-text-then-not-goes_on : goal.shape_of-text-then-not-goes_on
+shape_of-text-then-not-goes_on c = c.string_character-got.auto.text ∙ c.loop-i.invariant.1
+
+pub shape_of-lines-then-not-goes_on : goal.shape_of-lines-then-not-goes_on
+shape_of-lines-then-not-goes_on c = c.string_character-got.auto.lines ∙ c.loop-i.invariant.2
+
+pub shape_of-pages-then-not-goes_on : goal.shape_of-pages-then-not-goes_on
+shape_of-pages-then-not-goes_on c = c.string_character-got.auto.pages ∙ c.loop-i.invariant.3
+
+pub returns-then-not-goes_on : goal.returns-then-not-goes_on
+returns-then-not-goes_on c = getting_stops c.loop-i.invariant.0 (got_none c.args.row.now c.args.terminators.now c.loop-i.output c.loop-i.i (state c.loop-i.here c.loop-i.lines c.loop-i.pages) c.loop-i.text c.loop-i.invariant.0.ready c.loop-i-test.true c.string_character-got.result.byte c.string_character-got.result.outcome _ _ _ c.string_character-got.ensures (sym c.goes_on.ensures ∙ c.if-not-goes_on.true)) refl (sym c.goes_on.ensures ∙ c.if-not-goes_on.true)
+
+pub bounds-output-i : goal.bounds-output-i
+bounds-output-i c = omega (arith, c.loop-i-test.true)
+
+pub overflow_add-i-else-turns : goal.overflow_add-i-else-turns
+overflow_add-i-else-turns c = omega (arith, c.loop-i-test.true, c.loop-i.invariant.4, c.well_formed)
+
+pub loop-i-smaller : goal.loop-i-smaller
+loop-i-smaller c = (got_one c.args.row.now c.args.terminators.now c.loop-i.output c.loop-i.i (state c.loop-i.here c.loop-i.lines c.loop-i.pages) c.loop-i.text c.loop-i.invariant.0.ready c.loop-i-test.true c.string_character-got.result.byte c.string_character-got.result.outcome _ _ _ c.string_character-got.ensures (sym c.goes_on.ensures ∙ c.if-not-goes_on.false) refl).less (sym c.goes_on.ensures ∙ c.if-not-goes_on.false)
+
+pub loop-i-preserved : goal.loop-i-preserved
+loop-i-preserved c = (getting_more c.loop-i.invariant.0 (got_one c.args.row.now c.args.terminators.now c.loop-i.output c.loop-i.i (state c.loop-i.here c.loop-i.lines c.loop-i.pages) c.loop-i.text c.loop-i.invariant.0.ready c.loop-i-test.true c.string_character-got.result.byte c.string_character-got.result.outcome _ _ _ c.string_character-got.ensures (sym c.goes_on.ensures ∙ c.if-not-goes_on.false) refl) (length-set c.loop-i.output c.loop-i.i c.string_character-got.result.byte) (sym c.goes_on.ensures ∙ c.if-not-goes_on.false), c.string_character-got.auto.text ∙ c.loop-i.invariant.1, c.string_character-got.auto.lines ∙ c.loop-i.invariant.2, c.string_character-got.auto.pages ∙ c.loop-i.invariant.3, (length-set c.loop-i.output c.loop-i.i c.string_character-got.result.byte) ∙ c.loop-i.invariant.4)
+
+pub shape_of-output : goal.shape_of-output
+shape_of-output c = c.loop-i.invariant.4
+
+pub shape_of-text : goal.shape_of-text
+shape_of-text c = c.loop-i.invariant.1
+
+pub shape_of-lines : goal.shape_of-lines
+shape_of-lines c = c.loop-i.invariant.2
+
+pub shape_of-pages : goal.shape_of-pages
+shape_of-pages c = c.loop-i.invariant.3
+
+pub returns : goal.returns
+returns c = getting_full c.loop-i.invariant.0 (omega (arith, c.loop-i-test.false))

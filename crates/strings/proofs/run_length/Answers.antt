@@ -1,0 +1,7 @@
+use Rattle.strings.proofs.Parts.{room_less}
+use native.Mathlib.Omega.{arith}
+use borrow.Author.Rules.{rules}
+use Rattle.strings.proofs.run_length.Goals as goal
+
+pub returns : goal.returns
+returns c = record { room = room_less c.room_here-room.ensures (omega (arith, c.least-limit.ensures.0, c.printable_run.ensures.0)); left = omega (arith, c.least-limit.ensures.1, c.printable_run.ensures.0); plain = c.printable_run.ensures.1 }
