@@ -1,0 +1,6 @@
+use mathlib.Core.Path.{◌∙◌}
+use borrow.Author.Rules.{rules}
+use Rattle.numbers.proofs.get_integer.Goals as goal
+
+pub returns : goal.returns
+returns c = c.in_numbers.ensures.reads _ _ _ _ ∙ c.get_integer-reply.ensures

@@ -1,0 +1,6 @@
+use mathlib.Core.Path.{◌∙◌}
+use borrow.Author.Rules.{rules}
+use Rattle.numbers.proofs.set.Goals as goal
+
+pub returns : goal.returns
+returns c = c.in_numbers.ensures.reads _ _ _ _ ∙ c.set-reply.ensures
