@@ -1,6 +1,6 @@
 // The thin layer: the interpreter keeps one file record and lends it to be changed at each call. Each function takes the record apart,
-// calls the core on it and stores the new one; each gives and leaves what the core does. All are exported for C, whose
-// declarations stand in include/transput.h; only the line view is not, since C can be handed no slice.
+// calls the core on it and stores the new one; each gives and leaves what the core does. All are exported for C by crate transput_c, and
+// include/transput.h declares them; only the line view is not, since C can be handed no slice.
 #![tactic(auto)]
 
 ghost use Rattle.std.specs.Prelude.{◌≡◌, []};
@@ -17,7 +17,6 @@ use views::ViewPlace;
 use whole::Wrote;
 
 // Establishes a book over lent memory: every length full, and no character wiped.
-#[unsafe(no_mangle)]
 pub extern "C" fn transput_establish(
     file: &mut File,
     end: Position,
@@ -33,7 +32,6 @@ pub extern "C" fn transput_establish(
 }
 
 // Opens a book with the logical end that it has.
-#[unsafe(no_mangle)]
 pub extern "C" fn transput_open(
     file: &mut File,
     end: Position,
@@ -49,7 +47,6 @@ pub extern "C" fn transput_open(
 }
 
 // Closes the record.
-#[unsafe(no_mangle)]
 pub extern "C" fn transput_close(
     file: &mut File,
     end: Position,
@@ -65,7 +62,6 @@ pub extern "C" fn transput_close(
 }
 
 // Chooses what becomes of a string that does not fit on its line: the Report's split, or refusal 16.
-#[unsafe(no_mangle)]
 pub extern "C" fn transput_choose(
     file: &mut File,
     end: Position,
@@ -82,7 +78,6 @@ pub extern "C" fn transput_choose(
 }
 
 // Resets the record: its moods by its rights, at (1,1,1).
-#[unsafe(no_mangle)]
 pub extern "C" fn transput_reset(
     file: &mut File,
     end: Position,
@@ -98,7 +93,6 @@ pub extern "C" fn transput_reset(
 }
 
 // Backspaces: one character back on the line.
-#[unsafe(no_mangle)]
 pub extern "C" fn transput_backspace(
     file: &mut File,
     end: Position,
@@ -114,7 +108,6 @@ pub extern "C" fn transput_backspace(
 }
 
 // Puts a character.
-#[unsafe(no_mangle)]
 pub extern "C" fn transput_put_character(
     file: &mut File,
     end: Position,
@@ -132,7 +125,6 @@ pub extern "C" fn transput_put_character(
 }
 
 // Puts the characters of a string in turn.
-#[unsafe(no_mangle)]
 pub extern "C" fn transput_put_string(
     file: &mut File,
     end: Position,
@@ -150,7 +142,6 @@ pub extern "C" fn transput_put_string(
 }
 
 // Puts an integer: a blank where the line has begun, then whole(v, 11).
-#[unsafe(no_mangle)]
 pub extern "C" fn transput_put_integer(
     file: &mut File,
     end: Position,
@@ -168,7 +159,6 @@ pub extern "C" fn transput_put_integer(
 }
 
 // Gets a character.
-#[unsafe(no_mangle)]
 pub extern "C" fn transput_get_character(
     file: &mut File,
     end: Position,
@@ -185,7 +175,6 @@ pub extern "C" fn transput_get_character(
 }
 
 // Gets a string into the lent output.
-#[unsafe(no_mangle)]
 pub extern "C" fn transput_get_string(
     file: &mut File,
     end: Position,
@@ -204,7 +193,6 @@ pub extern "C" fn transput_get_string(
 }
 
 // Gets an integer.
-#[unsafe(no_mangle)]
 pub extern "C" fn transput_get_integer(
     file: &mut File,
     end: Position,
@@ -221,7 +209,6 @@ pub extern "C" fn transput_get_integer(
 }
 
 // Space: past a character, reading; a blank put, writing past the end of what is written.
-#[unsafe(no_mangle)]
 pub extern "C" fn transput_space(
     file: &mut File,
     end: Position,
@@ -238,7 +225,6 @@ pub extern "C" fn transput_space(
 }
 
 // Newline: to the start of the next line.
-#[unsafe(no_mangle)]
 pub extern "C" fn transput_newline(
     file: &mut File,
     end: Position,
@@ -255,7 +241,6 @@ pub extern "C" fn transput_newline(
 }
 
 // Newpage: to the start of the next page.
-#[unsafe(no_mangle)]
 pub extern "C" fn transput_newpage(
     file: &mut File,
     end: Position,
@@ -272,7 +257,6 @@ pub extern "C" fn transput_newpage(
 }
 
 // Set: to a place in the book.
-#[unsafe(no_mangle)]
 pub extern "C" fn transput_set(
     file: &mut File,
     end: Position,
@@ -290,7 +274,6 @@ pub extern "C" fn transput_set(
 }
 
 // Set char number: to a place on the line.
-#[unsafe(no_mangle)]
 pub extern "C" fn transput_set_character_number(
     file: &mut File,
     end: Position,
@@ -308,7 +291,6 @@ pub extern "C" fn transput_set_character_number(
 }
 
 // The number of a line view, asked for apart.
-#[unsafe(no_mangle)]
 pub extern "C" fn transput_view_number(
     file: &File,
     end: Position,
@@ -324,7 +306,6 @@ pub extern "C" fn transput_view_number(
 }
 
 // The line view in numbers: where it lies, in the text or in the marker text.
-#[unsafe(no_mangle)]
 pub extern "C" fn transput_line_view(
     file: &File,
     end: Position,
@@ -357,7 +338,6 @@ pub fn line_view<'f, 'a>(
 }
 
 // The spans on which the shown texts of two books differ, written to a lent list, four bytes a span.
-#[unsafe(no_mangle)]
 pub extern "C" fn transput_differ(
     file: &File,
     other_file: &File,
@@ -389,7 +369,6 @@ pub extern "C" fn transput_differ(
 }
 
 // How many such spans there are.
-#[unsafe(no_mangle)]
 pub extern "C" fn transput_difference_count(
     file: &File,
     other_file: &File,
@@ -419,7 +398,6 @@ pub extern "C" fn transput_difference_count(
 }
 
 // whole(v, w) at the start of a lent output.
-#[unsafe(no_mangle)]
 pub extern "C" fn transput_whole(v: i32, w: i32, output: &mut [u8]) -> Wrote
     ensures { record { number = result.number; count = result.count; buffer = output.new } ≡ whole v w output.old }
 {
