@@ -1,5 +1,5 @@
 // The thin layer: the interpreter keeps one file record and lends it to be changed at each call. Each function takes the record apart,
-// calls the core on it and stores the new one; each gives and leaves what the core does. All are exported for C by crate transput_c, and
+// calls the core on it and stores the new one; each gives and leaves what the core does. All are exported for C by crate c_library, and
 // include/transput.h declares them; only the line view is not, since C can be handed no slice.
 #![tactic(auto)]
 
@@ -17,7 +17,7 @@ use views::ViewPlace;
 use whole::Wrote;
 
 // Establishes a book over lent memory: every length full, and no character wiped.
-pub extern "C" fn transput_establish(
+pub fn transput_establish(
     file: &mut File,
     end: Position,
     text: &[u8],
@@ -32,7 +32,7 @@ pub extern "C" fn transput_establish(
 }
 
 // Opens a book with the logical end that it has.
-pub extern "C" fn transput_open(
+pub fn transput_open(
     file: &mut File,
     end: Position,
     text: &[u8],
@@ -47,7 +47,7 @@ pub extern "C" fn transput_open(
 }
 
 // Closes the record.
-pub extern "C" fn transput_close(
+pub fn transput_close(
     file: &mut File,
     end: Position,
     text: &[u8],
@@ -62,7 +62,7 @@ pub extern "C" fn transput_close(
 }
 
 // Chooses what becomes of a string that does not fit on its line: the Report's split, or refusal 16.
-pub extern "C" fn transput_choose(
+pub fn transput_choose(
     file: &mut File,
     end: Position,
     split: bool,
@@ -78,7 +78,7 @@ pub extern "C" fn transput_choose(
 }
 
 // Resets the record: its moods by its rights, at (1,1,1).
-pub extern "C" fn transput_reset(
+pub fn transput_reset(
     file: &mut File,
     end: Position,
     text: &[u8],
@@ -93,7 +93,7 @@ pub extern "C" fn transput_reset(
 }
 
 // Backspaces: one character back on the line.
-pub extern "C" fn transput_backspace(
+pub fn transput_backspace(
     file: &mut File,
     end: Position,
     text: &[u8],
@@ -108,7 +108,7 @@ pub extern "C" fn transput_backspace(
 }
 
 // Puts a character.
-pub extern "C" fn transput_put_character(
+pub fn transput_put_character(
     file: &mut File,
     end: Position,
     b: u8,
@@ -125,7 +125,7 @@ pub extern "C" fn transput_put_character(
 }
 
 // Puts the characters of a string in turn.
-pub extern "C" fn transput_put_string(
+pub fn transput_put_string(
     file: &mut File,
     end: Position,
     bytes: &[u8],
@@ -142,7 +142,7 @@ pub extern "C" fn transput_put_string(
 }
 
 // Puts an integer: a blank where the line has begun, then whole(v, 11).
-pub extern "C" fn transput_put_integer(
+pub fn transput_put_integer(
     file: &mut File,
     end: Position,
     v: i32,
@@ -159,7 +159,7 @@ pub extern "C" fn transput_put_integer(
 }
 
 // Gets a character.
-pub extern "C" fn transput_get_character(
+pub fn transput_get_character(
     file: &mut File,
     end: Position,
     text: &mut [u8],
@@ -175,7 +175,7 @@ pub extern "C" fn transput_get_character(
 }
 
 // Gets a string into the lent output.
-pub extern "C" fn transput_get_string(
+pub fn transput_get_string(
     file: &mut File,
     end: Position,
     terminators: &[u8],
@@ -193,7 +193,7 @@ pub extern "C" fn transput_get_string(
 }
 
 // Gets an integer.
-pub extern "C" fn transput_get_integer(
+pub fn transput_get_integer(
     file: &mut File,
     end: Position,
     text: &mut [u8],
@@ -209,7 +209,7 @@ pub extern "C" fn transput_get_integer(
 }
 
 // Space: past a character, reading; a blank put, writing past the end of what is written.
-pub extern "C" fn transput_space(
+pub fn transput_space(
     file: &mut File,
     end: Position,
     text: &mut [u8],
@@ -225,7 +225,7 @@ pub extern "C" fn transput_space(
 }
 
 // Newline: to the start of the next line.
-pub extern "C" fn transput_newline(
+pub fn transput_newline(
     file: &mut File,
     end: Position,
     text: &mut [u8],
@@ -241,7 +241,7 @@ pub extern "C" fn transput_newline(
 }
 
 // Newpage: to the start of the next page.
-pub extern "C" fn transput_newpage(
+pub fn transput_newpage(
     file: &mut File,
     end: Position,
     text: &mut [u8],
@@ -257,7 +257,7 @@ pub extern "C" fn transput_newpage(
 }
 
 // Set: to a place in the book.
-pub extern "C" fn transput_set(
+pub fn transput_set(
     file: &mut File,
     end: Position,
     to: Position,
@@ -274,7 +274,7 @@ pub extern "C" fn transput_set(
 }
 
 // Set char number: to a place on the line.
-pub extern "C" fn transput_set_character_number(
+pub fn transput_set_character_number(
     file: &mut File,
     end: Position,
     n: usize,
@@ -291,7 +291,7 @@ pub extern "C" fn transput_set_character_number(
 }
 
 // The number of a line view, asked for apart.
-pub extern "C" fn transput_view_number(
+pub fn transput_view_number(
     file: &File,
     end: Position,
     page: usize,
@@ -306,7 +306,7 @@ pub extern "C" fn transput_view_number(
 }
 
 // The line view in numbers: where it lies, in the text or in the marker text.
-pub extern "C" fn transput_line_view(
+pub fn transput_line_view(
     file: &File,
     end: Position,
     page: usize,
@@ -338,7 +338,7 @@ pub fn line_view<'f, 'a>(
 }
 
 // The spans on which the shown texts of two books differ, written to a lent list, four bytes a span.
-pub extern "C" fn transput_differ(
+pub fn transput_differ(
     file: &File,
     other_file: &File,
     end: Position,
@@ -369,7 +369,7 @@ pub extern "C" fn transput_differ(
 }
 
 // How many such spans there are.
-pub extern "C" fn transput_difference_count(
+pub fn transput_difference_count(
     file: &File,
     other_file: &File,
     end: Position,
@@ -398,7 +398,7 @@ pub extern "C" fn transput_difference_count(
 }
 
 // whole(v, w) at the start of a lent output.
-pub extern "C" fn transput_whole(v: i32, w: i32, output: &mut [u8]) -> Wrote
+pub fn transput_whole(v: i32, w: i32, output: &mut [u8]) -> Wrote
     ensures { record { number = result.number; count = result.count; buffer = output.new } ≡ whole v w output.old }
 {
     whole::whole(v, w, output)
