@@ -1,6 +1,6 @@
 // The thin layer: the interpreter keeps one file record and lends it to be changed at each call. Each function takes the record apart,
-// calls the core on it and stores the new one; each gives and leaves what the core does. All are exported for C, whose
-// declarations stand in include/transput.h; only the line view is not, since C can be handed no slice.
+// calls the core on it and stores the new one; each gives and leaves what the core does. All are exported for C by crate c_library, and
+// include/transput.h declares them; only the line view is not, since C can be handed no slice.
 #![tactic(auto)]
 
 ghost use Rattle.std.specs.Prelude.{◌≡◌, []};
@@ -17,8 +17,7 @@ use views::ViewPlace;
 use whole::Wrote;
 
 // Establishes a book over lent memory: every length full, and no character wiped.
-#[unsafe(no_mangle)]
-pub extern "C" fn transput_establish(
+pub fn transput_establish(
     file: &mut File,
     end: Position,
     text: &[u8],
@@ -33,8 +32,7 @@ pub extern "C" fn transput_establish(
 }
 
 // Opens a book with the logical end that it has.
-#[unsafe(no_mangle)]
-pub extern "C" fn transput_open(
+pub fn transput_open(
     file: &mut File,
     end: Position,
     text: &[u8],
@@ -49,8 +47,7 @@ pub extern "C" fn transput_open(
 }
 
 // Closes the record.
-#[unsafe(no_mangle)]
-pub extern "C" fn transput_close(
+pub fn transput_close(
     file: &mut File,
     end: Position,
     text: &[u8],
@@ -65,8 +62,7 @@ pub extern "C" fn transput_close(
 }
 
 // Chooses what becomes of a string that does not fit on its line: the Report's split, or refusal 16.
-#[unsafe(no_mangle)]
-pub extern "C" fn transput_choose(
+pub fn transput_choose(
     file: &mut File,
     end: Position,
     split: bool,
@@ -82,8 +78,7 @@ pub extern "C" fn transput_choose(
 }
 
 // Resets the record: its moods by its rights, at (1,1,1).
-#[unsafe(no_mangle)]
-pub extern "C" fn transput_reset(
+pub fn transput_reset(
     file: &mut File,
     end: Position,
     text: &[u8],
@@ -98,8 +93,7 @@ pub extern "C" fn transput_reset(
 }
 
 // Backspaces: one character back on the line.
-#[unsafe(no_mangle)]
-pub extern "C" fn transput_backspace(
+pub fn transput_backspace(
     file: &mut File,
     end: Position,
     text: &[u8],
@@ -114,8 +108,7 @@ pub extern "C" fn transput_backspace(
 }
 
 // Puts a character.
-#[unsafe(no_mangle)]
-pub extern "C" fn transput_put_character(
+pub fn transput_put_character(
     file: &mut File,
     end: Position,
     b: u8,
@@ -132,8 +125,7 @@ pub extern "C" fn transput_put_character(
 }
 
 // Puts the characters of a string in turn.
-#[unsafe(no_mangle)]
-pub extern "C" fn transput_put_string(
+pub fn transput_put_string(
     file: &mut File,
     end: Position,
     bytes: &[u8],
@@ -150,8 +142,7 @@ pub extern "C" fn transput_put_string(
 }
 
 // Puts an integer: a blank where the line has begun, then whole(v, 11).
-#[unsafe(no_mangle)]
-pub extern "C" fn transput_put_integer(
+pub fn transput_put_integer(
     file: &mut File,
     end: Position,
     v: i32,
@@ -168,8 +159,7 @@ pub extern "C" fn transput_put_integer(
 }
 
 // Gets a character.
-#[unsafe(no_mangle)]
-pub extern "C" fn transput_get_character(
+pub fn transput_get_character(
     file: &mut File,
     end: Position,
     text: &mut [u8],
@@ -185,8 +175,7 @@ pub extern "C" fn transput_get_character(
 }
 
 // Gets a string into the lent output.
-#[unsafe(no_mangle)]
-pub extern "C" fn transput_get_string(
+pub fn transput_get_string(
     file: &mut File,
     end: Position,
     terminators: &[u8],
@@ -204,8 +193,7 @@ pub extern "C" fn transput_get_string(
 }
 
 // Gets an integer.
-#[unsafe(no_mangle)]
-pub extern "C" fn transput_get_integer(
+pub fn transput_get_integer(
     file: &mut File,
     end: Position,
     text: &mut [u8],
@@ -221,8 +209,7 @@ pub extern "C" fn transput_get_integer(
 }
 
 // Space: past a character, reading; a blank put, writing past the end of what is written.
-#[unsafe(no_mangle)]
-pub extern "C" fn transput_space(
+pub fn transput_space(
     file: &mut File,
     end: Position,
     text: &mut [u8],
@@ -238,8 +225,7 @@ pub extern "C" fn transput_space(
 }
 
 // Newline: to the start of the next line.
-#[unsafe(no_mangle)]
-pub extern "C" fn transput_newline(
+pub fn transput_newline(
     file: &mut File,
     end: Position,
     text: &mut [u8],
@@ -255,8 +241,7 @@ pub extern "C" fn transput_newline(
 }
 
 // Newpage: to the start of the next page.
-#[unsafe(no_mangle)]
-pub extern "C" fn transput_newpage(
+pub fn transput_newpage(
     file: &mut File,
     end: Position,
     text: &mut [u8],
@@ -272,8 +257,7 @@ pub extern "C" fn transput_newpage(
 }
 
 // Set: to a place in the book.
-#[unsafe(no_mangle)]
-pub extern "C" fn transput_set(
+pub fn transput_set(
     file: &mut File,
     end: Position,
     to: Position,
@@ -290,8 +274,7 @@ pub extern "C" fn transput_set(
 }
 
 // Set char number: to a place on the line.
-#[unsafe(no_mangle)]
-pub extern "C" fn transput_set_character_number(
+pub fn transput_set_character_number(
     file: &mut File,
     end: Position,
     n: usize,
@@ -308,8 +291,7 @@ pub extern "C" fn transput_set_character_number(
 }
 
 // The number of a line view, asked for apart.
-#[unsafe(no_mangle)]
-pub extern "C" fn transput_view_number(
+pub fn transput_view_number(
     file: &File,
     end: Position,
     page: usize,
@@ -324,8 +306,7 @@ pub extern "C" fn transput_view_number(
 }
 
 // The line view in numbers: where it lies, in the text or in the marker text.
-#[unsafe(no_mangle)]
-pub extern "C" fn transput_line_view(
+pub fn transput_line_view(
     file: &File,
     end: Position,
     page: usize,
@@ -357,8 +338,7 @@ pub fn line_view<'f, 'a>(
 }
 
 // The spans on which the shown texts of two books differ, written to a lent list, four bytes a span.
-#[unsafe(no_mangle)]
-pub extern "C" fn transput_differ(
+pub fn transput_differ(
     file: &File,
     other_file: &File,
     end: Position,
@@ -389,8 +369,7 @@ pub extern "C" fn transput_differ(
 }
 
 // How many such spans there are.
-#[unsafe(no_mangle)]
-pub extern "C" fn transput_difference_count(
+pub fn transput_difference_count(
     file: &File,
     other_file: &File,
     end: Position,
@@ -419,8 +398,7 @@ pub extern "C" fn transput_difference_count(
 }
 
 // whole(v, w) at the start of a lent output.
-#[unsafe(no_mangle)]
-pub extern "C" fn transput_whole(v: i32, w: i32, output: &mut [u8]) -> Wrote
+pub fn transput_whole(v: i32, w: i32, output: &mut [u8]) -> Wrote
     ensures { record { number = result.number; count = result.count; buffer = output.new } ≡ whole v w output.old }
 {
     whole::whole(v, w, output)
