@@ -1,9 +1,9 @@
 -- How a call begins, beside its definition: where a test fails it is refused, and where none does the work starts from a state that
 -- every action may start from. And how a call's end becomes its reply. Assumes nothing.
-use Prim.Native.Nat.{ℕ, zero, suc, ◌≤◌, ◌^◌}
+use Prim.Native.Nat.{ℕ, ◌≤◌, ◌^◌}
 use native.Mathlib.Omega.{arith}
 use mathlib.Core.Path.{◌≡◌, refl, sym, ap, subst, ◌∙◌}
-use mathlib.Core.Bool.{Bool, true, false, not, ◌||◌}
+use mathlib.Core.Bool.{Bool, true, false, ◌||◌}
 use mathlib.Core.List.{List, []}
 use lib.Dec.{T, eqb}
 use lib.ListN.{length}
@@ -19,13 +19,13 @@ use Rattle.rules.specs.declared.Given.TheVariants.{Nothing, Character, Integer}
 use Rattle.rules.specs.declared.Event.TheVariants.{None}
 use Rattle.rules.specs.declared.Status.{Status}
 use Rattle.rules.specs.Book.{choose, State, state, on_run, run_with, in_mood, rights_of, row_fits, all_fits}
-use Rattle.rules.specs.Step.{ending_by, ending_as, status_of, Ending, Out, done, ends, Step, ◌>>=◌, ◌>>◌, and_then, refuse, pure, refusal, finished, need, size, change, test, branch, halt, again, mood_on, going, outcome_giving, outcome_with, outcome, done_by, refused_by}
+use Rattle.rules.specs.Step.{ending_by, ending_as, status_of, Ending, Out, done, ends, Step, ◌>>=◌, ◌>>◌, and_then, pure, refusal, need, size, halt, again, mood_on, going, outcome_giving, outcome, done_by, refused_by}
 use Rattle.rules.specs.Steps.{Action}
-use Rattle.rules.specs.Ready.{Ready, Valid}
-use Rattle.rules.specs.Calls.{Value, nothing, a_character, an_integer, After, begin, need_row, turnable, putting, getting, hand_back, leave, after}
+use Rattle.rules.specs.Ready.{Ready}
+use Rattle.rules.specs.Calls.{Value, nothing, a_character, an_integer, begin, need_row, turnable, putting, getting, hand_back, leave, after}
 use Rattle.laws.specs.Given.{is_finished, given_out}
 use Rattle.laws.proofs.Given.{is_finished_lem}
-use Rattle.laws.proofs.Ways.{bind_done, bind_ends, need_true, need_false, change_then, test_true, test_false, outcome_at, with_value}
+use Rattle.laws.proofs.Ways.{bind_done, bind_ends, need_true, need_false, change_then, test_true, test_false, with_value}
 use Rattle.laws.proofs.Entry.{call_ready}
 use Rattle.entry.specs.Before.{before_work, before_asking, may_do, turnable_by, turned_by, reply_of, refused_reply, ended_reply}
 use Rattle.begins.specs.Begin.{following, prepared_by, in_mood_by, may_set_by, lowest_by}

@@ -10,7 +10,6 @@ use lib.ListN.{length, get_or}
 use lib.Seq.{ext_get_or}
 use borrow.Author.Tests.{eqb-true, eq-eqb, leb-true, leb-false}
 use Rattle.rules.specs.Book.{State, shape_of, all_fits}
-use Rattle.rules.specs.Calls.{shown}
 use Rattle.laws.proofs.Order.{split, le_split}
 use Rattle.differences.specs.Spans.{Line, hidden, showing, line_at, place_differs, Span, runs, line_spans, in_turn, page_spans, spans}
 use Rattle.differences.specs.Claims.{Some, Nothing}

@@ -1,5 +1,5 @@
 -- The tests before work, one by one. Assumes nothing.
-use Prim.Native.Nat.{ℕ, zero, suc, ◌+◌, ◌*◌, ◌-◌, ◌/◌, ◌^◌, ◌≤◌, ◌<◌}
+use Prim.Native.Nat.{ℕ, zero, suc, ◌+◌, ◌*◌, ◌-◌, ◌^◌, ◌≤◌, ◌<◌}
 use native.Mathlib.Omega.{arith}
 use native.Mathlib.Numerals.{add-one, sub-one, lt_of_le_of_ne}
 use native.Mathlib.Nat.{mul-le-mul, mul-le-mul_right, mul-pos, mul-zero, zero-mul, suc-mul}
@@ -11,20 +11,16 @@ use mathlib.Core.List.{List, [], ◌∷◌, ◌++◌}
 use lib.Dec.{T, leb, ltb, eqb}
 use lib.ListN.{length, get_or, take, drop, drop_of_length-le, get_or-eq_default}
 use lib.Seq.{take-suc, take_all, drop-cons}
-use borrow.Author.Tests.{le-leb, lt-leb, leb-true, leb-false, eq-eqb, ne_eqb, lt-ltb, le-ltb}
+use borrow.Author.Tests.{le-leb, lt-leb, leb-true, eq-eqb, ne_eqb, lt-ltb, le-ltb}
 use Rattle.places.proofs.Bytes.{greater_up_to}
 use Rattle.rules.specs.declared.Position.{Position}
 use Rattle.rules.specs.declared.Shape.{Shape}
-use Rattle.rules.specs.declared.Rights.{Rights}
-use Rattle.rules.specs.declared.Run.{Run}
 use Rattle.rules.specs.declared.File.{File}
-use Rattle.rules.specs.declared.Outcome.{Outcome}
-use Rattle.rules.specs.Book.{choose, Lengths, lengths, page_length, line_index, line_length, State, here, end_of, shape_of, rights_of, before, within, in_bounds, in_mood, legal, sizes_fit, all_up_to, lengths_fit, some_right, moods_fit, shape_fits, book_fits, all_fits, kind_of, page_of, line_of, character_of, place_of, word_fits, all_words_fit, row_fits}
-use Rattle.rules.specs.Step.{done_by, refused_by}
+use Rattle.rules.specs.Book.{choose, Lengths, lengths, page_length, line_index, line_length, State, here, end_of, shape_of, rights_of, before, within, in_bounds, legal, sizes_fit, all_up_to, lengths_fit, some_right, moods_fit, shape_fits, book_fits, all_fits, kind_of, place_of, word_fits, all_words_fit, row_fits}
 use Rattle.laws.proofs.Order.{and_l, and_r, lt_or_ge}
 use Rattle.laws.proofs.Entry.{all_get_d, Legal, legal_facts, Sizes, sizes_facts}
 use Rattle.entry.specs.Sound.{flags_fit, sound, placed, Lent, places_on, sound_number, placed_number, asked_number}
-use Rattle.entry.specs.Before.{sizes_are, before_work, before_asking, may_do, turnable_by, turned_by}
+use Rattle.entry.specs.Before.{sizes_are, before_work, before_asking}
 
 -- ---- products
 
@@ -157,6 +153,16 @@ module _ (f : File) where
   unfolding moods_fit some_right
   flags_none r w e = e ∙ rw (r, w) (kept (f.rights.get || f.rights.put))
 
+-- ---- moods
+
+pub moods_reading : (f : File) → f.reading ≡ true → f.writing ≡ false → f.rights.get ≡ moods_fit f
+unfolding moods_fit
+moods_reading f r w = rw (r, w) (kept f.rights.get)
+  where
+    kept : (p : Bool) → p ≡ (p && true)
+    kept true = refl
+    kept false = refl
+
 -- ---- tests in a row: all but the last passed
 
 pub all_three : (a b c : Bool) → a ≡ true → b ≡ true → c ≡ (a && b && c)
@@ -255,6 +261,24 @@ module _ (n : ℕ) (s : State) where
     unfolding book_fits
     book_end f = rw (e, f)
 
+  pub all_book_bad : book_fits n s ≡ false → false ≡ all_fits n s
+  unfolding all_fits
+  all_book_bad e = rw e
+
+  module _ (e : book_fits n s ≡ true) where
+    pub all_place_bad : in_bounds (shape_of s) s.lengths (here s) ≡ false → false ≡ all_fits n s
+    unfolding all_fits
+    all_place_bad f = rw (e, f)
+
+    module _ (f : in_bounds (shape_of s) s.lengths (here s) ≡ true) where
+      pub all_beyond : before (end_of s) (here s) ≡ true → false ≡ all_fits n s
+      unfolding all_fits
+      all_beyond g = rw (e, f, g)
+
+      pub all_moods : before (end_of s) (here s) ≡ false → moods_fit s.run.file ≡ all_fits n s
+      unfolding all_fits
+      all_moods g = rw (e, f, g)
+
 -- ---- the tests of every other call, in three parts
 
 all_parts : (n : ℕ) (s : State) → (flags_fit s.run.file && (sound (shape_of s) n s.lengths.lines s.lengths.pages && placed (shape_of s) s.lengths (here s) (end_of s))) ≡ all_fits n s
@@ -284,32 +308,6 @@ all_parts n s = by (some_right (rights_of s)) (moods_fit s.run.file) (legal (sha
     by false m true true f e o a = refl
     by false m true false f e o a = refl
     by false m false z f e o a = refl
-
-module _ (n : ℕ) (s : State) where
-  -- the three parts one after the other: the first that fails tells
-  pub all_flags_bad : flags_fit s.run.file ≡ false → false ≡ all_fits n s
-  all_flags_bad e = sym (ap (λ (b : Bool). b && (sound (shape_of s) n s.lengths.lines s.lengths.pages && placed (shape_of s) s.lengths (here s) (end_of s))) e) ∙ all_parts n s
-
-  pub all_sound_bad : flags_fit s.run.file ≡ true → sound (shape_of s) n s.lengths.lines s.lengths.pages ≡ false → false ≡ all_fits n s
-  all_sound_bad e f = sym (ap (λ (b : Bool). b && (sound (shape_of s) n s.lengths.lines s.lengths.pages && placed (shape_of s) s.lengths (here s) (end_of s))) e ∙ ap (λ (b : Bool). b && placed (shape_of s) s.lengths (here s) (end_of s)) f) ∙ all_parts n s
-
-  pub all_placed : flags_fit s.run.file ≡ true → sound (shape_of s) n s.lengths.lines s.lengths.pages ≡ true → placed (shape_of s) s.lengths (here s) (end_of s) ≡ all_fits n s
-  all_placed e f = sym (ap (λ (b : Bool). b && (sound (shape_of s) n s.lengths.lines s.lengths.pages && placed (shape_of s) s.lengths (here s) (end_of s))) e ∙ ap (λ (b : Bool). b && placed (shape_of s) s.lengths (here s) (end_of s)) f) ∙ all_parts n s
-
-  pub all_end_bad : flags_fit s.run.file ≡ true → sound (shape_of s) n s.lengths.lines s.lengths.pages ≡ true → in_bounds (shape_of s) s.lengths (end_of s) ≡ false → false ≡ all_fits n s
-  all_end_bad e f g = by (in_bounds (shape_of s) s.lengths (end_of s)) (before (end_of s) (here s)) (in_bounds (shape_of s) s.lengths (here s)) g ∙ all_placed e f
-    where
-      by : (a b c : Bool) → a ≡ false → false ≡ (a && not b && c)
-      by true b c o = cc
-      by false b c o = refl
-
-  pub all_reached : flags_fit s.run.file ≡ true → sound (shape_of s) n s.lengths.lines s.lengths.pages ≡ true → in_bounds (shape_of s) s.lengths (end_of s) ≡ true
-      → (not (before (end_of s) (here s)) && in_bounds (shape_of s) s.lengths (here s)) ≡ all_fits n s
-  all_reached e f g = by (in_bounds (shape_of s) s.lengths (end_of s)) (before (end_of s) (here s)) (in_bounds (shape_of s) s.lengths (here s)) g ∙ all_placed e f
-    where
-      by : (a b c : Bool) → a ≡ true → (not b && c) ≡ (a && not b && c)
-      by true b c o = refl
-      by false b c o = cc
 
 -- sound memory, as facts
 pub sound_lent : (h : Shape) (n : ℕ) (l p : List ℕ) → sound h n l p ≡ true → Lent h n l p
@@ -487,6 +485,23 @@ module _ (h : Shape) (f : Lengths) (at end : Position) where
   reached_other e i = i ∙ rw e
 
 -- ---- the first test that fails
+
+module _ (row : List ℕ) (n : ℕ) (s : State) {k : ℕ} (e : k ≡ before_work n s) where
+  pub asking_refused : (k ≡ 0 → ⊥) → k ≡ before_asking row n s
+  asking_refused h = e ∙ by s.run.file.opened (all_fits n s) (λ z. h (e ∙ z))
+    where
+      by : (p q : Bool) → (◌≡◌ {A = ℕ} (choose p (choose q 0 3) 1) 0 → ⊥) → ◌≡◌ {A = ℕ} (choose p (choose q 0 3) 1) (choose p (choose q (choose (row_fits row) 0 2) 3) 1)
+      by true true h = absurd (h refl)
+      by true false h = refl
+      by false q h = refl
+
+  pub asking_row : k ≡ 0 → ◌≡◌ {A = ℕ} (choose (row_fits row) 0 2) (before_asking row n s)
+  asking_row h = by s.run.file.opened (all_fits n s) (sym e ∙ h)
+    where
+      by : (p q : Bool) → ◌≡◌ {A = ℕ} (choose p (choose q 0 3) 1) 0 → ◌≡◌ {A = ℕ} (choose (row_fits row) 0 2) (choose p (choose q (choose (row_fits row) 0 2) 3) 1)
+      by true true h = refl
+      by true false h = absurd (omega (arith, h))
+      by false q h = absurd (omega (arith, h))
 
 -- memory whose first half of tests failed nowhere
 pub number_lent : (n : ℕ) (f : File) (l p : List ℕ) {k : ℕ} → k ≡ sound_number n f l p → k ≡ 0 → Lent f.shape n l p

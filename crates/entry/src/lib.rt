@@ -147,6 +147,32 @@ pub fn book_fits(run: Run, text: &[u8], lines: &[u8], pages: &[u8]) -> bool
     places::in_bounds(shape, lines, pages, end)
 }
 
+// What every other call looks at: what open does, and the record. It calls no `book_fits`, so that all of it is one function.
+pub fn all_fits(run: Run, text: &[u8], lines: &[u8], pages: &[u8]) -> bool
+    ensures { result ≡ all_fits (length text.now) (state run lines.now pages.now) }
+{
+    let file = run.file;
+    let shape = file.shape;
+    let position = file.position;
+    let end = run.end;
+    if !shape_fits(run, text, lines, pages) {
+        return false;
+    }
+    if !lengths_fit(shape, lines, pages) {
+        return false;
+    }
+    if !places::in_bounds(shape, lines, pages, end) {
+        return false;
+    }
+    if !places::in_bounds(shape, lines, pages, position) {
+        return false;
+    }
+    if places::is_before(end, position) {
+        return false;
+    }
+    moods_fit(file)
+}
+
 // Whether shape, lent sizes and lengths fit.
 pub fn is_sound(shape: Shape, text: usize, lines: &[u8], pages: &[u8]) -> bool
     ensures { result ≡ sound shape text lines.now pages.now }
@@ -229,26 +255,6 @@ pub fn is_reached(
         return false;
     }
     position.character <= places_on(shape, text, lines, pages, position.page, position.line)
-}
-
-// What every other call looks at: what open does, and the record.
-pub fn all_fits(run: Run, text: &[u8], lines: &[u8], pages: &[u8]) -> bool
-    ensures { result ≡ all_fits (length text.now) (state run lines.now pages.now) }
-{
-    let file = run.file;
-    let shape = file.shape;
-    let position = file.position;
-    let end = run.end;
-    if !flags_fit(file) {
-        return false;
-    }
-    if !is_sound(shape, text.len(), lines, pages) {
-        return false;
-    }
-    if !is_within(shape, text.len(), lines, pages, end) {
-        return false;
-    }
-    is_reached(shape, text.len(), lines, pages, position, end)
 }
 
 // The first half of the tests before work: 1 where the record is not open; 3 where its flags, its shape, the lent sizes or the lengths do
@@ -352,21 +358,24 @@ pub fn number_before(run: Run, text: &[u8], lines: &[u8], pages: &[u8]) -> u8
 }
 
 // The test of a call that lends answers, after both: the number so far where it is not 0; 2 where the answers do not fit; or 0.
-pub fn number_asked(number: u8, row: &[u32]) -> u8
-    ensures { result ≡ asked_number number row.now }
+pub fn number_asked(placed: u8, row: &[u32]) -> u8
+    ensures { result ≡ asked_number placed row.now }
 {
-    if number != 0 {
-        return number;
+    if placed != 0 {
+        return placed;
     }
     if row_fits(row) { 0 } else { 2 }
 }
 
-// The number of the first test that fails of a call that lends answers: 1, then 3, then 2; or 0.
+// The same of one that lends answers: 1, then 3, then 2; or 0.
 pub fn number_asking(run: Run, text: &[u8], lines: &[u8], pages: &[u8], row: &[u32]) -> u8
     ensures { result ≡ before_asking row.now (length text.now) (state run lines.now pages.now) }
 {
     let number = number_before(run, text, lines, pages);
-    number_asked(number, row)
+    if number != 0 {
+        return number;
+    }
+    if row_fits(row) { 0 } else { 2 }
 }
 
 // The right of a call that gets, or of one that puts.

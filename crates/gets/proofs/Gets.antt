@@ -1,9 +1,9 @@
 -- Each get beside its definition. Assumes nothing.
 use Prim.Native.Nat.{ℕ, ◌≤◌}
 use native.Mathlib.Omega.{arith}
-use mathlib.Core.Path.{◌≡◌, refl, sym, ap, ◌∙◌}
-use mathlib.Core.Bool.{Bool, true, false}
-use mathlib.Core.List.{List, [], ◌∷◌, ◌++◌}
+use mathlib.Core.Path.{◌≡◌, sym, ap, ◌∙◌}
+use mathlib.Core.Bool.{true, false}
+use mathlib.Core.List.{List, [], ◌++◌}
 use lib.ListN.{length, take, drop, take-append-drop}
 use lib.Seq.{length-take-le}
 use Rattle.rules.specs.declared.Position.{Position}
@@ -14,8 +14,8 @@ use Rattle.rules.specs.declared.Given.{Given}
 use Rattle.rules.specs.declared.Given.TheVariants.{Nothing, Character}
 use Rattle.rules.specs.declared.Reply.{Reply}
 use Rattle.rules.specs.declared.Status.{Status}
-use Rattle.rules.specs.Book.{State, state, run_with}
-use Rattle.rules.specs.Step.{ending_by, outcome_with, Out, done, ends, Step, ◌>>=◌, ◌>>◌, pure, going, outcome, outcome_giving}
+use Rattle.rules.specs.Book.{state, run_with}
+use Rattle.rules.specs.Step.{ending_by, outcome_with, done, Step, ◌>>=◌, ◌>>◌, pure, going, outcome, outcome_giving}
 use Rattle.rules.specs.Steps.{good_line, execute}
 use Rattle.rules.specs.Calls.{Value, a_character, a_string, begin, need_row, getting, take_character, getting_character, get_characters, getting_string, take_integer, getting_integer, leave, after, book, call, work, asking_work, buffer_of, asking, gets_character, gets_string, gets_integer}
 use Rattle.laws.specs.Given.{given_out}

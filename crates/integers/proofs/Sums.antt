@@ -3,9 +3,9 @@ use Prim.Native.Nat.{ℕ, zero, suc, ◌+◌, ◌*◌, ◌-◌, ◌≤◌, ◌<�
 use native.Mathlib.Omega.{arith}
 use mathlib.Core.Path.{◌≡◌, refl, sym, ap, subst, ◌∙◌}
 use mathlib.Core.List.{List}
-use mathlib.Core.Bool.{Bool, true, false, not, ◌&&◌, ◌||◌}
+use mathlib.Core.Bool.{Bool, true, false, not, ◌||◌}
 use lib.Dec.{T, leb, eqb}
-use lib.IntN.{ℤ, pos, negsuc, neg_ℤ, ◌-ℤ◌, +ℤ_idl}
+use lib.IntN.{ℤ, pos, neg_ℤ, ◌-ℤ◌, +ℤ_idl}
 use mir.Syntax.{w32}
 use mir.Val.{SFits, to_z, of_z}
 use mir.Facts.{to_z-of_z}
@@ -17,8 +17,8 @@ use Rattle.rules.specs.declared.Run.{Run}
 use Rattle.rules.specs.declared.Event.TheVariants as code
 use Rattle.rules.specs.declared.Outcome.{Outcome}
 use Rattle.rules.specs.Book.{choose, within, next_character, character_index, State, state, on_run, here, shape_of, moved_to, row_fits, Event}
-use Rattle.rules.specs.Step.{ending_by, Ending, Out, done, ends, refusal, refusal_at, going, outcome_giving, outcome, refused_by, refused_at, done_by}
-use Rattle.rules.specs.Steps.{Action, good_line, pass_blanks, more_digits, digit, is_stop, character_event, measure, execute}
+use Rattle.rules.specs.Step.{ending_by, Out, done, ends, refusal_at, going, outcome_giving, outcome, refused_at, done_by}
+use Rattle.rules.specs.Steps.{good_line, pass_blanks, more_digits, digit, character_event, measure, execute}
 use Rattle.rules.specs.Ready.{Ready, Valid}
 use Rattle.laws.specs.Capped.{capped, with_cap}
 use Rattle.laws.specs.Given.{given_out}

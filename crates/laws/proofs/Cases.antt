@@ -1,26 +1,25 @@
 -- The laws of the actions of the event cycle in the shape in which code meets them: one for each way out of an action, and one for each call
 -- in it. Assumes nothing.
-use Prim.Native.Nat.{ℕ, ◌+◌, ◌-◌, ◌<◌, ◌≤◌}
+use Prim.Native.Nat.{ℕ, ◌<◌}
 use native.Mathlib.Omega.{arith}
 use mathlib.Core.Path.{◌≡◌, refl, sym, ap, subst, ◌∙◌}
 use mathlib.Core.List.{List}
-use mathlib.Core.Bool.{◌&&◌, Bool, true, false, not}
+use mathlib.Core.Bool.{Bool, true, false}
 use lib.Dec.{ltb, eqb}
-use lib.ListN.{length}
 use borrow.Author.Tests.{eq-eqb, ne_eqb}
 use Rattle.rules.specs.declared.Position.{Position}
 use Rattle.rules.specs.declared.Run.{Run}
 use Rattle.rules.specs.declared.Event as code
 use Rattle.rules.specs.declared.Event.TheVariants.{LogicalEnd, PageEnd}
 use Rattle.rules.specs.declared.Outcome.{Outcome}
-use Rattle.rules.specs.Book.{choose, before, in_bounds, next_line, next_page, previous_character, State, state, on_run, here, end_of, shape_of, rights_of, moved_to, in_mood, with_file, rewound, kind_of, place_of, character_of, mending_of, logical_end, page_end, line_end, Answer, Mending, is_true}
-use Rattle.rules.specs.Step.{Ending, Out, done, ends, Step, ◌>>=◌, pure, halt, refuse, refuse_at, refusal, stopped, change, branch, test, need, outcome, going, event_as, status_of, done_by, refused_by, refused_at, stopped_by, file_ended, page_ended, line_ended, on_end_page, on_end_line, again, go_to, go_to_end, signal, mood_on, backspace, reset, end_line, end_page}
-use Rattle.rules.specs.Steps.{Action, good_file, good_page, good_line, at_page_end, at_line_end, newline, newpage, set_to, perform, answered, file_end, file_end_number, signals, signal_while, upon, good_file_body, good_page_body, good_line_body, at_page_end_body, at_line_end_body, newline_body, newpage_body, set_to_body, perform_body, answered_body, body, stage, execute}
+use Rattle.rules.specs.Book.{choose, before, in_bounds, next_line, next_page, previous_character, State, state, on_run, here, end_of, shape_of, rights_of, moved_to, in_mood, with_file, rewound, kind_of, place_of, character_of, mending_of, logical_end, page_end, Answer, Mending}
+use Rattle.rules.specs.Step.{Ending, Out, done, ends, Step, ◌>>=◌, pure, halt, refuse_at, refusal, stopped, change, branch, need, outcome, going, event_as, status_of, done_by, refused_by, refused_at, stopped_by, file_ended, page_ended, on_end_line, again, go_to, signal, mood_on, backspace, reset, end_line, end_page}
+use Rattle.rules.specs.Steps.{Action, good_file, good_page, at_page_end, newline, newpage, set_to, perform, answered, file_end, file_end_number, signals, signal_while, upon, good_file_body, good_page_body, at_page_end_body, newline_body, newpage_body, set_to_body, perform_body, answered_body, body, stage, execute}
 use Rattle.laws.specs.Follow.{followed}
-use Rattle.laws.proofs.Validity.{Valid, Near, near_at, near_end, to_end, end_valid, end_further}
-use Rattle.laws.proofs.Progress.{Gain, Ready, FileGood, Done, Site, site_lower, gain_less, moved_gain, From, from_start, from_gain, heard, answer}
+use Rattle.laws.proofs.Validity.{to_end, end_valid, end_further}
+use Rattle.laws.proofs.Progress.{Gain, Ready, FileGood, Done, Site, site_lower, gain_less, moved_gain, From, from_gain, heard, answer}
 use Rattle.laws.proofs.Unfolding.{On, unfold_execute}
-use Rattle.laws.proofs.Ways.{bind_done, bind_ends, branch_true, branch_false, test_true, test_false, need_true, need_false, change_then, signal_then, outcome_at, outcome_is, hands_on, done_of, Asked, is_false_lem, is_jump, is_true_lem, after_event, from_lower, from_default, from_answer, on_default, refuse_as, signals_default, signals_followed, followed_on, while_stays, while_ends, while_again}
+use Rattle.laws.proofs.Ways.{bind_done, bind_ends, branch_true, branch_false, test_true, test_false, need_true, need_false, change_then, signal_then, outcome_at, outcome_is, hands_on, done_of, Asked, is_false_lem, is_jump, is_true_lem, after_event, from_lower, refuse_as, signals_default, signals_followed, while_stays, while_ends, while_again}
 
 -- ---- a good step: an inner one, and then events while a test holds
 

@@ -1,15 +1,15 @@
 -- The tests of refusals 2 and 3 leave a state that every action may start from. Assumes nothing.
-use Prim.Native.Nat.{ℕ, zero, suc, ◌+◌, ◌-◌, ◌*◌, ◌≤◌, ◌<◌, ◌^◌}
+use Prim.Native.Nat.{ℕ, zero, suc, ◌+◌, ◌*◌, ◌≤◌, ◌^◌}
 use native.Mathlib.Omega.{arith}
-use mathlib.Core.Path.{◌≡◌, refl, sym}
+use mathlib.Core.Path.{◌≡◌}
 use mathlib.Core.List.{List, [], ◌∷◌}
-use mathlib.Core.Bool.{Bool, true, false, not, ◌&&◌}
-use lib.Dec.{T, leb, eqb, leb→le, eqb→eq}
+use mathlib.Core.Bool.{not}
+use lib.Dec.{T, leb, leb→le, eqb→eq}
 use lib.ListN.{length, get_or}
 use Rattle.rules.specs.declared.Shape.{Shape}
 use Rattle.rules.specs.Book.{before, within, in_bounds, Lengths, State, here, end_of, shape_of, legal, sizes_fit, all_up_to, lengths_fit, shape_fits, book_fits, all_fits, row_fits}
-use Rattle.rules.specs.Steps.{Action, spent, supply, stage}
-use Rattle.rules.specs.Ready.{InBounds, Rules, Valid, Ready}
+use Rattle.rules.specs.Steps.{Action, spent, supply}
+use Rattle.rules.specs.Ready.{Rules, Valid, Ready}
 use Rattle.laws.proofs.Order.{and_l, and_r, no}
 use Rattle.laws.proofs.Validity.{near_in, before_false, in_bounds_lem}
 use Rattle.laws.proofs.Progress.{Gain, Answered, spent_le, stage_le}

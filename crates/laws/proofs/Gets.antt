@@ -1,11 +1,10 @@
 -- The laws of a character taken and of a string got, in the shape in which code meets them. Assumes nothing.
-use Prim.Native.Nat.{ℕ, zero, suc, ◌+◌, ◌*◌, ◌-◌, ◌<◌, ◌≤◌}
+use Prim.Native.Nat.{ℕ, zero, suc, ◌+◌, ◌-◌, ◌<◌, ◌≤◌}
 use native.Mathlib.Omega.{arith}
 use native.Mathlib.Numerals.{add-one}
 use mathlib.Core.Path.{◌≡◌, refl, sym, ap, subst, ◌∙◌}
 use mathlib.Core.List.{List, [], ◌∷◌, ◌++◌}
-use mathlib.Core.Bool.{Bool, true, false, not}
-use lib.Dec.{T, ltb}
+use mathlib.Core.Bool.{true, false, not}
 use lib.ListN.{length, set, take, drop, get_or, length-append, length-take, length-drop, take-append-drop}
 use lib.Seq.{sets, sets-eq, take_at, take-suc-set, append_snoc}
 use borrow.Author.Tests.{le-ltb, not-true}
@@ -18,10 +17,10 @@ use Rattle.rules.specs.Calls.{Value, a_string, take_character, one_of, string_ch
 use Rattle.laws.specs.Runs.{on_by, every, ordinary}
 use Rattle.laws.proofs.Order.{split}
 use Rattle.laws.proofs.Validity.{Valid, Near, near_at, near_end, before_false, pass_valid}
-use Rattle.laws.proofs.Progress.{Gain, gain_none, Ready, PageGood, LineGood, FileGood, Done, site_lower, ready_on, gain_less, gain_trans, From, from_start, from_gain}
+use Rattle.laws.proofs.Progress.{Gain, gain_none, Ready, PageGood, LineGood, site_lower, ready_on, gain_less, gain_trans, from_gain}
 use Rattle.laws.proofs.Walk.{Ended, Post, post_weak, At, at_pure, at_halt, at_bind, at_branch, at_weak, at_first, at_character_lem, ended_here, ended_on, pass_gain, good_before}
 use Rattle.laws.proofs.Unfolding.{On, execute_post, event_post}
-use Rattle.laws.proofs.Ways.{bind_done, bind_ends, branch_true, branch_false, attempt_done, attempt_ends, change_then, post_done_of, done_of}
+use Rattle.laws.proofs.Ways.{bind_done, bind_ends, branch_true, branch_false, attempt_done, attempt_ends, change_then, post_done_of}
 use Rattle.laws.proofs.Lines.{good_line_at_once}
 use Rattle.laws.proofs.Runs.{All, none, also, all_of, both_true, index_next}
 

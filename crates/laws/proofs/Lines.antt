@@ -12,7 +12,7 @@ use Rattle.rules.specs.declared.Event as code
 use Rattle.rules.specs.declared.Event.TheVariants.{LineEnd, Character}
 use Rattle.rules.specs.declared.Outcome.{Outcome}
 use Rattle.rules.specs.Book.{place, before, within, next_character, previous_character, character_index, State, state, on_run, here, end_of, shape_of, line_here, moved_to, mending_of, suggested, Event, line_end, Answer, kind_of, next_line, in_mood}
-use Rattle.rules.specs.Step.{Ending, Out, done, ends, ◌>>=◌, pure, halt, refuse_at, stopped, look, change, branch, test, need, outcome_giving, outcome, done_by, refused_by, refused_at, stopped_by, going, file_ended, page_ended, line_ended, store, on_end_line}
+use Rattle.rules.specs.Step.{Ending, Out, done, ends, ◌>>=◌, pure, halt, refuse_at, look, change, branch, test, need, outcome_giving, outcome, done_by, refused_by, refused_at, stopped_by, going, file_ended, page_ended, line_ended, store, on_end_line}
 use Rattle.rules.specs.Steps.{string_end, good_file, good_page, good_line, at_line_end, newline, perform, answered, put_character, set_character_number, printable, backspaces, signals, signal_while, upon, good_line_body, at_line_end_body, character_event, put_character_body, space_step, set_character_number_body, body, measure, execute}
 use Rattle.laws.specs.Follow.{followed}
 use Rattle.laws.specs.Runs.{stored_by}

@@ -1,21 +1,21 @@
 -- How far an action takes a state: what it keeps, what it uses up, and why each call of an action in an action is at a smaller
 -- measure. Assumes nothing.
-use Prim.Native.Nat.{ℕ, zero, suc, ◌+◌, ◌-◌, ◌*◌, ◌≤◌, ◌<◌, ◌^◌}
+use Prim.Native.Nat.{ℕ, ◌+◌, ◌*◌, ◌≤◌, ◌<◌, ◌^◌}
 use native.Mathlib.Omega.{arith}
-use mathlib.Core.Path.{◌≡◌, refl, sym, ap, subst, ◌∙◌}
+use mathlib.Core.Path.{◌≡◌, refl, ap, ◌∙◌}
 use mathlib.Core.List.{List}
-use mathlib.Core.Bool.{Bool, true, false, not}
+use mathlib.Core.Bool.{Bool, true, false}
 use lib.Dec.{ltb}
-use lib.ListN.{length, get_or, get_or-eq_default}
+use lib.ListN.{length, get_or-eq_default}
 use borrow.Author.Tests.{ltb-true, ltb-false, lt-ltb}
 use Rattle.rules.specs.declared.Position.{Position}
 use Rattle.rules.specs.declared.Run.{Run}
-use Rattle.rules.specs.Book.{choose, State, on_run, here, end_of, moved_to, signalled_by, next_word, kind_of, Mending, Answer, is_false, is_true, jump, answer_of}
+use Rattle.rules.specs.Book.{State, on_run, here, moved_to, signalled_by, next_word, kind_of, Answer, is_false, answer_of}
 use Rattle.rules.specs.Step.{file_ended, page_ended, line_ended}
 use Rattle.rules.specs.Steps.{Action, good_file, good_page, good_line, at_page_end, at_line_end, newline, newpage, set_to, perform, answered, put_character, room_for, pass_blanks, more_digits, set_character_number, fits_here, rank, spent, spent_by, supply, stage, measure}
 pub use Rattle.rules.specs.Ready.{Ready}
 use Rattle.laws.proofs.Order.{split}
-use Rattle.laws.proofs.Validity.{Valid, Near, near_at, move_to}
+use Rattle.laws.proofs.Validity.{Valid, Near, near_at}
 
 -- from E events and S used up to E' and S': more by k, and by one for each event
 pub record Grown (k E S E' S' : ℕ) : Type 0 where

@@ -14,7 +14,7 @@ use Rattle.rules.specs.Step.{Out, done, ends, Step, ◌>>=◌, and_then, pure, f
 use Rattle.rules.specs.Steps.{put_character, printable, put_character_body, body, execute}
 use Rattle.rules.specs.Calls.{put_characters}
 use Rattle.laws.specs.Runs.{on_by, stored_by, every}
-use Rattle.laws.proofs.Order.{split, yes, no, is_yes, Lt, by_page, by_line, by_character, Le, le_page, le_line, le_character, before→Lt, Lt→before, Lt-Le}
+use Rattle.laws.proofs.Order.{split, yes, is_yes, Lt, by_page, by_line, by_character, Le, le_page, le_line, le_character, before→Lt, Lt→before, Lt-Le}
 use Rattle.laws.proofs.Restored.{Grown, page_grown, line_grown, kept_grown}
 use Rattle.laws.proofs.Validity.{Valid, Near, near_at}
 use Rattle.laws.proofs.Progress.{Ready, LineGood, ready_as, ready_on, gain_less}

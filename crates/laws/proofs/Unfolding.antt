@@ -1,23 +1,22 @@
 -- The unfolding law: `execute` of an action is the action's body over `execute`. And what each action keeps, done or ended. One walk of
 -- each body shows both. Assumes nothing.
-use Prim.Native.Nat.{ℕ, zero, suc, ◌+◌, ◌-◌, ◌*◌, ◌≤◌, ◌<◌, ◌^◌}
+use Prim.Native.Nat.{ℕ, zero, suc, ◌+◌, ◌-◌, ◌*◌, ◌≤◌, ◌<◌}
 use native.Mathlib.Omega.{arith}
-use mathlib.Core.Path.{◌≡◌, refl, sym, ap, subst, ◌∙◌}
+use mathlib.Core.Path.{◌≡◌, refl, sym, subst, ◌∙◌}
 use mathlib.Core.List.{List}
 use mathlib.Core.Bool.{Bool, true, false, not, ◌&&◌, ◌||◌}
-use lib.Dec.{T, leb, ltb, eqb}
+use lib.Dec.{leb, ltb, eqb}
 use lib.ListN.{length}
-use borrow.Author.Tests.{ltb-true, eqb-true, not-false}
+use borrow.Author.Tests.{eqb-true, not-false}
 use Rattle.rules.specs.declared.Position.{Position}
-use Rattle.rules.specs.declared.Run.{Run}
-use Rattle.rules.specs.Book.{choose, before, within, next_character, next_line, next_page, in_bounds, page_length, State, on_run, here, end_of, shape_of, rights_of, line_here, moved_to, Event, logical_end, physical_end, page_end, line_end, Mending, Answer, is_false, is_true, suggested}
-use Rattle.rules.specs.Step.{signalled, Ending, Step, ◌>>=◌, refuse_at, refusal, refusal_at, stopped, branch, test, file_ended, page_ended, line_ended, on_end_page, on_end_line, store}
-use Rattle.rules.specs.Steps.{string_end, Action, Gives, good_file, good_page, good_line, at_page_end, at_line_end, newline, newpage, set_to, perform, answered, put_character, room_for, pass_blanks, more_digits, set_character_number, printable, digit, fits_here, is_stop, file_end, file_end_number, signals, signal_while, good_file_body, good_page_body, at_page_end_body, good_line_body, at_line_end_body, newline_body, newpage_body, set_to_body, perform_body, answered_body, character_event, put_character_body, room_for_body, pass_blanks_body, more_digits_body, space_step, set_character_number_body, body, rank, spent_by, stage, measure, bounded, execute}
+use Rattle.rules.specs.Book.{before, within, next_character, next_line, next_page, in_bounds, State, here, end_of, shape_of, rights_of, line_here, Event, logical_end, physical_end, page_end, line_end, Mending, Answer, is_false, is_true, suggested}
+use Rattle.rules.specs.Step.{signalled, Ending, Step, refuse_at, refusal, refusal_at, stopped, file_ended, page_ended, line_ended, on_end_page, on_end_line, store}
+use Rattle.rules.specs.Steps.{string_end, Action, Gives, good_file, good_page, good_line, at_page_end, at_line_end, newline, newpage, set_to, perform, answered, put_character, room_for, pass_blanks, more_digits, set_character_number, printable, digit, fits_here, is_stop, file_end, file_end_number, signals, signal_while, good_file_body, good_page_body, at_page_end_body, good_line_body, at_line_end_body, newline_body, newpage_body, set_to_body, perform_body, answered_body, character_event, put_character_body, room_for_body, pass_blanks_body, more_digits_body, space_step, set_character_number_body, body, stage, measure, bounded, execute}
 use Rattle.rules.specs.Told.{goes_with, known}
 use Rattle.laws.proofs.Order.{is_yes}
 use Rattle.laws.proofs.Validity.{Valid, Near, near_at, near_end, near_in, rules_moved, before_false, move_to, to_end, end_valid, end_further, writing_within, same_line, next_line_valid, next_page_valid, pass_valid, in_bounds_lem}
-use Rattle.laws.proofs.Progress.{Gain, Answered, Ready, FileGood, Done, Site, site_lower, site_later, stage_le, gain_trans, gain_less, gain_heard, moved_gain, heard_none, gain_answered, From, from_start, from_gain, heard, answer, heard_took, heard_gain, answered_gain, site_default, default_gain}
-use Rattle.laws.proofs.Walk.{Ended, Post, At, at_pure, at_halt, at_refuse, at_change, at_bind, at_attempt, at_branch, at_test, at_weak, at_signal, at_first, at_look, at_character_lem, at_need, at_upon, at_here, ended_here, ended_heard, ended_on, ended_default, Closed, at_end_line, at_end_page, pass_gain, at_store, still_heard, still_ended, good_before, at_mood, at_backspace, at_backspaces, at_reset}
+use Rattle.laws.proofs.Progress.{Gain, Answered, Ready, FileGood, Done, site_lower, site_later, stage_le, gain_trans, gain_less, gain_heard, moved_gain, heard_none, gain_answered, From, from_start, from_gain, heard, answer, heard_took, heard_gain, answered_gain, site_default, default_gain}
+use Rattle.laws.proofs.Walk.{Ended, Post, At, at_pure, at_halt, at_refuse, at_change, at_bind, at_attempt, at_branch, at_test, at_weak, at_signal, at_first, at_look, at_character_lem, at_need, at_upon, at_here, ended_here, ended_heard, ended_on, ended_default, at_end_line, at_end_page, pass_gain, at_store, still_heard, still_ended, good_before, at_mood, at_backspace, at_backspaces, at_reset}
 
 -- a state well further on than b
 pub record On (row : List ℕ) (b u : State) : Type 0 where

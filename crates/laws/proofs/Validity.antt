@@ -1,21 +1,20 @@
 -- The book's rules (document 01, "The book") as facts, and the moves of the steps that keep them. Assumes nothing.
-use Prim.Native.Nat.{ℕ, zero, suc, ◌+◌, ◌-◌, ◌*◌, ◌≤◌, ◌<◌}
+use Prim.Native.Nat.{ℕ, ◌+◌, ◌-◌, ◌≤◌, ◌<◌}
 use native.Mathlib.Omega.{arith}
-use mathlib.Core.Path.{◌≡◌, refl, sym, ap, subst, ◌∙◌}
+use mathlib.Core.Path.{◌≡◌, refl, sym, subst}
 use mathlib.Core.List.{List}
-use mathlib.Core.Bool.{Bool, true, false, not, ◌&&◌}
-use lib.Dec.{T, leb, ltb, eqb, leb→le, nltb→le}
+use mathlib.Core.Bool.{Bool, true, false}
+use lib.Dec.{T, leb, ltb, eqb, leb→le}
 use lib.ListN.{length, get_or, set}
 use lib.Seq.{get_or-set_same, get_or-set_other, set_out}
-use borrow.Author.Tests.{ltb-true, ltb-false, leb-true, leb-false, eqb-true, eqb-false, not-false}
+use borrow.Author.Tests.{ltb-true, ltb-false, eqb-true, eqb-false, not-false}
 use Rattle.rules.specs.declared.Position.{Position}
 use Rattle.rules.specs.declared.Shape.{Shape}
-use Rattle.rules.specs.declared.Run.{Run}
-use Rattle.rules.specs.Book.{choose, place, before, within, next_character, previous_character, next_line, next_page, Lengths, State, on_run, here, end_of, shape_of, page_here, line_here, moved_to, page_length, line_index, line_length, in_bounds}
+use Rattle.rules.specs.Book.{choose, place, before, within, next_character, next_line, next_page, Lengths, State, on_run, here, end_of, shape_of, line_here, moved_to, page_length, line_index, line_length, in_bounds}
 use Rattle.rules.specs.Step.{restored_from, file_ended, page_ended, line_ended, on_end_page, on_end_line}
 use Rattle.rules.specs.Steps.{rank}
 pub use Rattle.rules.specs.Ready.{InBounds, Rules, Valid}
-use Rattle.laws.proofs.Order.{split, and_l, and_r, is_yes}
+use Rattle.laws.proofs.Order.{split, and_l, and_r}
 use Rattle.laws.proofs.Restored.{bounds_grown, restored_grown, restored_lines_fit, restored_pages_fit}
 
 -- a position whose parts are small

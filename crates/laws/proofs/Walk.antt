@@ -1,21 +1,19 @@
 -- Two families of actions that agree do the same in every step over them, and leave what is said of them: the judgement, and a rule for
 -- each way to build a step. Assumes nothing.
-use Prim.Native.Nat.{ℕ, zero, suc, ◌+◌, ◌-◌, ◌*◌, ◌≤◌, ◌<◌, ◌^◌}
+use Prim.Native.Nat.{ℕ, zero, suc, ◌+◌, ◌*◌, ◌≤◌, ◌<◌, ◌^◌}
 use native.Mathlib.Omega.{arith}
 use mathlib.Core.Path.{◌≡◌, refl, sym, ap, subst, ◌∙◌}
 use mathlib.Core.List.{List}
-use mathlib.Core.Bool.{Bool, true, false, not, ◌&&◌, ◌||◌}
-use lib.Dec.{T, leb, ltb, eqb}
+use mathlib.Core.Bool.{Bool, true, false, not, ◌&&◌}
+use lib.Dec.{ltb}
 use lib.ListN.{length, get_or, set}
-use borrow.Author.Tests.{ltb-true, ltb-false, not-false}
-use Rattle.rules.specs.declared.Position.{Position}
-use Rattle.rules.specs.declared.Run.{Run}
-use Rattle.rules.specs.Book.{choose, place, before, next_character, previous_character, next_line, next_page, character_index, line_index, page_length, State, on_run, here, end_of, shape_of, rights_of, line_here, moved_to, both_moved_to, signalled_by, next_word, Event, Mending, Answer, is_false, is_true, jump, answer_of}
-use Rattle.rules.specs.Step.{came_to, goes_back, restored_from, Ending, Out, done, ends, Step, ◌>>=◌, and_then, caught, pure, halt, refuse, refuse_at, refusal, refusal_at, stopped, attempt, look, change, change_run, branch, test, need, file_ended, page_ended, line_ended, on_end_page, on_end_line, pass, signal, mood_on, backspace, reset, character_here, end_after, store, cut_line, fill_line, end_line, cut_page, fill_page, end_page}
-use Rattle.rules.specs.Steps.{Action, backspaces, upon, rank, spent, spent_by, stage}
+use borrow.Author.Tests.{ltb-true, not-false}
+use Rattle.rules.specs.Book.{choose, before, next_character, next_line, next_page, character_index, State, here, end_of, shape_of, rights_of, moved_to, both_moved_to, Event, Mending, Answer, is_false, is_true, jump}
+use Rattle.rules.specs.Step.{came_to, goes_back, restored_from, Ending, Out, done, ends, Step, ◌>>=◌, and_then, caught, pure, halt, refuse, refuse_at, refusal, refusal_at, attempt, look, change, change_run, branch, test, need, file_ended, page_ended, line_ended, signal, mood_on, backspace, reset, character_here, store, cut_line, fill_line, end_line, cut_page, fill_page, end_page}
+use Rattle.rules.specs.Steps.{Action, backspaces, upon, spent, spent_by, stage}
 use Rattle.rules.specs.Told.{known}
-use Rattle.laws.proofs.Validity.{Valid, Rules, Near, near_at, near_end, near_in, stored_valid, stored_before, stored_back, back_valid, first_valid, cut_line_fits, cut_page_fits, next_line_both, next_page_both}
-use Rattle.laws.proofs.Progress.{Grown, Gain, Answered, Ready, FileGood, moved_gain, heard, answer, heard_took}
+use Rattle.laws.proofs.Validity.{Valid, Rules, Near, near_at, stored_valid, stored_before, stored_back, back_valid, first_valid, cut_line_fits, cut_page_fits, next_line_both, next_page_both}
+use Rattle.laws.proofs.Progress.{Gain, Answered, Ready, FileGood, moved_gain, heard, answer, heard_took}
 
 -- what a step leaves where it ends the call
 pub record Ended (row : List ℕ) (action : Action) (s : State) (e : Ending) (u : State) : Type 0 where

@@ -1,24 +1,24 @@
 -- The ways through a step, the code's outcome of a call, an answer that code has asked for, and a state that a loop of the code has come to:
 -- what every proof of code cites. Each law takes what the code has in variables, with an equation for each. Assumes nothing.
-use Prim.Native.Nat.{ℕ, ◌+◌, ◌-◌, ◌<◌, ◌≤◌}
+use Prim.Native.Nat.{ℕ, ◌<◌, ◌≤◌}
 use native.Mathlib.Omega.{arith}
 use mathlib.Core.Path.{◌≡◌, refl, sym, ap, subst, ◌∙◌}
 use mathlib.Core.List.{List}
-use mathlib.Core.Bool.{Bool, true, false, not}
-use lib.Dec.{ltb, eqb}
+use mathlib.Core.Bool.{Bool, true, false}
+use lib.Dec.{eqb}
 use lib.ListN.{length}
 use borrow.Author.Tests.{eq-eqb, ne_eqb, eqb-true, eqb-false}
 use Rattle.rules.specs.declared.Position.{Position}
 use Rattle.rules.specs.declared.Run.{Run}
 use Rattle.rules.specs.declared.Event as code
 use Rattle.rules.specs.declared.Outcome.{Outcome}
-use Rattle.rules.specs.Book.{choose, State, state, on_run, in_mood, signalled_by, next_word, kind_of, mending_of, here, Event, logical_end, physical_end, page_end, line_end, Mending, Answer, is_false, is_true, jump, answer_of}
-use Rattle.rules.specs.Step.{Told, signalled, ending_by, told_by, event_as, Ending, Out, done, ends, Step, ◌>>=◌, and_then, caught, pure, halt, refuse, refuse_at, refusal, attempt, look, change, branch, test, need, going, outcome_giving, outcome, signal}
+use Rattle.rules.specs.Book.{choose, State, state, on_run, signalled_by, next_word, kind_of, mending_of, here, Event, logical_end, physical_end, page_end, line_end, Answer, is_false, is_true, jump, answer_of}
+use Rattle.rules.specs.Step.{Told, signalled, ending_by, told_by, event_as, Ending, Out, done, ends, Step, ◌>>=◌, and_then, caught, pure, halt, refuse_at, refusal, attempt, look, change, branch, test, need, going, outcome_giving, outcome, signal}
 use Rattle.rules.specs.Steps.{Action, Gives, answered, signals, signal_while, upon, stage, measure, execute}
 use Rattle.laws.specs.Follow.{refuse_by, followed}
 use Rattle.laws.proofs.Validity.{Valid}
-use Rattle.laws.proofs.Progress.{Gain, Answered, Ready, Done, Site, site_lower, site_later, gain_less, gain_trans, From, from_start, from_gain, from_trans, heard, answer, heard_gain, answered_gain, heard_took, site_default, default_gain}
-use Rattle.laws.proofs.Walk.{Ended, Post, post_done, post_ends}
+use Rattle.laws.proofs.Progress.{Gain, Answered, Ready, Done, Site, site_lower, site_later, gain_less, gain_trans, From, from_start, from_trans, heard, answer, heard_gain, answered_gain, heard_took, site_default, default_gain}
+use Rattle.laws.proofs.Walk.{Post, post_done}
 use Rattle.laws.proofs.Unfolding.{On, execute_post}
 
 -- ---- the ways through a step

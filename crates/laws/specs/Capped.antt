@@ -1,6 +1,6 @@
 -- The value of a row of digits as the code keeps it: of one above 2147483647 only that it is.
-use Rattle.std.specs.Prelude.{ℕ, List, leb}
-use Rattle.rules.specs.Book.{choose, State}
+use Rattle.std.specs.Prelude.{ℕ, leb}
+use Rattle.rules.specs.Book.{choose}
 use Rattle.rules.specs.Step.{Out, done, ends}
 
 abbrev pub capped : ℕ → ℕ

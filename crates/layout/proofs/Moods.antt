@@ -1,6 +1,6 @@
 -- Each layout call beside its definition. Assumes nothing.
 use Prim.Native.Nat.{ℕ}
-use mathlib.Core.Path.{◌≡◌, refl, sym, ap, subst, ◌∙◌}
+use mathlib.Core.Path.{◌≡◌, refl, sym, ap, ◌∙◌}
 use mathlib.Core.Bool.{Bool, true, false, ◌||◌}
 use mathlib.Core.List.{List, []}
 use lib.ListN.{length}
@@ -10,11 +10,11 @@ use Rattle.rules.specs.declared.Run.{Run}
 use Rattle.rules.specs.declared.Outcome.{Outcome}
 use Rattle.rules.specs.declared.Reply.{Reply}
 use Rattle.rules.specs.Book.{choose, State, state, on_run, run_with, in_mood, rights_of}
-use Rattle.rules.specs.Step.{Out, done, ends, Step, ◌>>=◌, ◌>>◌, pure, need, look, branch, again, mood_on, going, outcome, done_by, refused_by}
+use Rattle.rules.specs.Step.{done, Step, ◌>>=◌, ◌>>◌, pure, need, look, branch, again, mood_on, going, outcome, done_by}
 use Rattle.rules.specs.Steps.{Action, newline, newpage, set_to, set_character_number, space_step, execute}
 use Rattle.rules.specs.Ready.{Ready}
 use Rattle.rules.specs.Calls.{Value, nothing, begin, need_row, in_mood_on, spacing, newlining, newpaging, setting_character_number, setting, leave, after, book, call, work, asking_work, buffer_of, asking, spaces, newlines, newpages, sets, sets_character_number}
-use Rattle.laws.proofs.Ways.{bind_done, bind_ends, branch_true, branch_false, change_then, look_then, reached, halted}
+use Rattle.laws.proofs.Ways.{bind_done, bind_ends, change_then, look_then, reached, halted}
 use Rattle.entry.specs.Before.{ended_reply}
 use Rattle.begins.specs.Begin.{in_mood_by, may_set_by}
 use Rattle.begins.proofs.Begins.{Leads, leads_as, leads_on, mood_leads, set_leads, start_of, began_ready, began_run, reply_ends, reply_nothing, call_refused, call_worked}

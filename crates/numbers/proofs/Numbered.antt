@@ -6,13 +6,12 @@ use lib.IntN.{ℤ, pos}
 use Rattle.rules.specs.declared.Position.{Position}
 use Rattle.rules.specs.declared.Event.{Event}
 use Rattle.rules.specs.declared.Event.TheVariants.{None, LogicalEnd, PhysicalEnd, PageEnd, LineEnd}
-use Rattle.rules.specs.declared.Event.TheVariants as Event
 use Rattle.rules.specs.declared.Status.{Status}
 use Rattle.rules.specs.declared.Given.{Given}
 use Rattle.rules.specs.declared.Given.TheVariants.{Nothing, Character, Integer}
 use Rattle.rules.specs.declared.Reply.{Reply}
 use Rattle.rules.specs.Step.{Told, event_number, told_by}
-use Rattle.rules.specs.Calls.{After, nothing, ending_of, value_of, after, book}
+use Rattle.rules.specs.Calls.{After, nothing, after, book}
 use Rattle.numbers.specs.declared.Left.{Left}
 use Rattle.numbers.specs.Numbers.{told_in, after_numbers, result_of, InNumbers}
 

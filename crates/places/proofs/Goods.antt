@@ -4,7 +4,7 @@ use Prim.Native.Nat.{ℕ, ◌≤◌}
 use native.Mathlib.Omega.{arith}
 use mathlib.Core.Path.{◌≡◌, refl, sym, ap, ◌∙◌}
 use mathlib.Core.Bool.{Bool, true, false, not}
-use lib.Dec.{leb, ltb}
+use lib.Dec.{ltb}
 use mathlib.Core.List.{List}
 use lib.ListN.{get_or}
 use Rattle.rules.specs.declared.Run.{Run}

@@ -1,23 +1,22 @@
 -- Each of these calls beside its definition. Assumes nothing.
-use Prim.Native.Nat.{ℕ, zero, suc, ◌+◌, ◌*◌, ◌≤◌}
+use Prim.Native.Nat.{ℕ, ◌+◌, ◌*◌}
 use native.Mathlib.Omega.{arith}
 use mathlib.Core.Path.{◌≡◌, refl, sym, ap, ◌∙◌}
 use mathlib.Core.Bool.{Bool, true, false}
-use mathlib.Core.List.{List, [], ◌∷◌, ◌++◌, append-nil}
-use lib.Dec.{eqb, ltb}
+use mathlib.Core.List.{List, [], ◌++◌, append-nil}
+use lib.Dec.{ltb}
 use lib.ListN.{length, take, drop, replicate, length-replicate}
 use lib.Seq.{sets, sets-eq, drop-length}
-use borrow.Author.Tests.{eq-eqb, ne_eqb}
 use Rattle.rules.specs.declared.Position.{Position}
 use Rattle.rules.specs.declared.File.{File}
 use Rattle.rules.specs.declared.Run.{Run}
 use Rattle.rules.specs.declared.Outcome.{Outcome}
 use Rattle.rules.specs.declared.Reply.{Reply}
-use Rattle.rules.specs.Book.{choose, State, state, on_run, run_with, with_file, file_as, file_choosing, file_opened, rewound, place, moved_to, previous_character, here, shape_of, rights_of, shape_fits, book_fits}
-use Rattle.rules.specs.Step.{Out, done, ends, Step, ◌>>=◌, ◌>>◌, pure, refusal, need, size, change, going, outcome, done_by, refused_by, reset, backspace}
+use Rattle.rules.specs.Book.{choose, State, state, on_run, run_with, with_file, file_as, file_choosing, file_opened, rewound, place, moved_to, previous_character, here, rights_of, shape_fits, book_fits}
+use Rattle.rules.specs.Step.{done, ends, Step, ◌>>=◌, ◌>>◌, pure, refusal, size, change, outcome, done_by, refused_by, reset, backspace}
 use Rattle.rules.specs.Calls.{Value, nothing, begin, established, establishing, opening, closing, choosing, resetting, backspacing, leave, after, book, call, work, plain_work, buffer_of, plain, establishes, opens, closes, chooses, resets, backspaces}
 use Rattle.running.specs.Outcomes.{reset_by, backspaced_by}
-use Rattle.laws.proofs.Ways.{need_true, need_false, change_then, bind_done, bind_ends, test_true, test_false, with_value}
+use Rattle.laws.proofs.Ways.{need_true, need_false, change_then, with_value}
 use Rattle.entry.specs.Before.{before_work, refused_reply, ended_reply}
 use Rattle.begins.proofs.Begins.{start_of, checked_on, reply_refused, reply_nothing}
 use Rattle.plain.specs.Done.{done_reply}

@@ -1,7 +1,7 @@
 -- Each put beside its definition. Assumes nothing.
 use Prim.Native.Nat.{ℕ}
-use mathlib.Core.Path.{◌≡◌, refl, sym, ap, ◌∙◌}
-use mathlib.Core.Bool.{Bool, true, false, not}
+use mathlib.Core.Path.{◌≡◌, refl, ap, ◌∙◌}
+use mathlib.Core.Bool.{true, false, not}
 use mathlib.Core.List.{List, [], ◌∷◌}
 use lib.IntN.{ℤ, pos}
 use lib.ListN.{length}
@@ -11,10 +11,10 @@ use Rattle.rules.specs.declared.Run.{Run}
 use Rattle.rules.specs.declared.Outcome.{Outcome}
 use Rattle.rules.specs.declared.Reply.{Reply}
 use Rattle.rules.specs.Book.{State, state, run_with}
-use Rattle.rules.specs.Step.{Out, done, ends, Step, ◌>>=◌, ◌>>◌, pure, need, going, outcome, outcome_giving}
+use Rattle.rules.specs.Step.{Step, ◌>>◌, pure, need, going, outcome}
 use Rattle.rules.specs.Steps.{put_character, execute}
 use Rattle.rules.specs.Whole.{whole_text, lowest}
-use Rattle.rules.specs.Calls.{Value, nothing, begin, need_row, putting, put_characters, putting_characters, put_text, putting_integer, leave, after, book, call, work, asking_work, buffer_of, asking, puts_character, puts_string, puts_integer}
+use Rattle.rules.specs.Calls.{Value, nothing, begin, need_row, putting, put_characters, putting_characters, put_text, putting_integer, after, book, call, work, asking_work, buffer_of, asking, puts_character, puts_string, puts_integer}
 use Rattle.laws.proofs.Ways.{with_value}
 use Rattle.entry.specs.Before.{ended_reply}
 use Rattle.begins.specs.Begin.{prepared_by, lowest_by}

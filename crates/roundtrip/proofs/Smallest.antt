@@ -7,7 +7,7 @@ use mathlib.Core.List.{[], ◌∷◌}
 use lib.ListN.{replicate}
 use lib.Seq.{length-sets}
 use lib.IntN.{ℤ, pos, nat_abs}
-use Rattle.rules.specs.Book.{place, lengths, State, before, within, page_length, line_index, line_length, character_index, in_bounds, legal, sizes_fit, all_up_to, lengths_fit, some_right, moods_fit, shape_fits, book_fits, all_fits, state, run_with}
+use Rattle.rules.specs.Book.{place, lengths, State, before, within, page_length, line_index, line_length, character_index, in_bounds, legal, sizes_fit, all_up_to, lengths_fit, some_right, moods_fit, shape_fits, book_fits, all_fits, run_with}
 use Rattle.rules.specs.Step.{end_after, lengths_after}
 use Rattle.rules.specs.Whole.{whole_text}
 use Rattle.rules.specs.Calls.{Book, After, turnable}

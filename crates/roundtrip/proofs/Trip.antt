@@ -17,7 +17,7 @@ use Rattle.rules.specs.Step.{done, pure, finished, file_ended, end_after}
 use Rattle.rules.specs.Steps.{Action, good_line, room_for, execute}
 use Rattle.rules.specs.Whole.{whole_text, lowest}
 use Rattle.rules.specs.Ready.{Ready}
-use Rattle.rules.specs.Calls.{nothing, an_integer, putting, getting, put_text, putting_integer, take_integer, getting_integer, puts_integer, gets_integer, asking, asking_work, work, buffer_of, Book, book, After, enter, hand_back, leave, call}
+use Rattle.rules.specs.Calls.{nothing, an_integer, putting, getting, put_text, putting_integer, take_integer, getting_integer, puts_integer, gets_integer, asking, asking_work, work, buffer_of, Book, After, enter, hand_back, leave, call}
 use Rattle.laws.specs.Runs.{on_by, stored_by}
 use Rattle.laws.proofs.Order.{is_yes}
 use Rattle.laws.proofs.Progress.{LineGood}

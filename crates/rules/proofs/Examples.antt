@@ -2,24 +2,23 @@
 -- Each row says all that the last call hands back and leaves: number, the event that a refusal ended in and its position, events, answers
 -- taken, stop, count, value, output, record, lengths, characters and logical end.
 use mathlib.Core.Path.{◌≡◌, refl}
-use Prim.Native.Nat.{ℕ, zero, suc, ◌+◌, ◌*◌, ◌-◌}
-use Prim.Native.Char.{Char, code}
+use Prim.Native.Nat.{ℕ, ◌*◌, ◌-◌}
+use Prim.Native.Char.{code}
 use Prim.Native.String as S
 use Prim.Native.String.{String}
-use mathlib.Core.Bool.{Bool, true, false, not, ◌&&◌, ◌||◌}
+use mathlib.Core.Bool.{Bool, true, false}
 use mathlib.Core.List.{List, [], ◌∷◌, ◌++◌}
-use lib.ListN.{length, take, drop, replicate}
+use lib.ListN.{length, replicate}
 use lib.IntN.{ℤ, pos, negsuc}
 use Rattle.rules.specs.declared.Position.{Position}
 use Rattle.rules.specs.declared.Rights.{Rights}
-use Rattle.rules.specs.declared.Shape.{Shape}
 use Rattle.rules.specs.declared.File.{File}
 use Rattle.rules.specs.Book.{file_choosing, Event, logical_end, physical_end, page_end, line_end, within, place, before, page_length, line_index, line_length, character_index, in_bounds, next_word, kind_of, place_of, mending_of, answer_of, suggested, word_fits, all_words_fit, row_fits, legal, sizes_fit, all_up_to, lengths_fit, some_right, moods_fit, shape_fits, book_fits, all_fits}
-use Rattle.rules.specs.Step.{Ending, refusal, refusal_at, stopped, finished, ◌>>=◌, pure, halt, attempt, look, change, branch, test, file_ended, signal, mood_on, backspace, reset, character_here, size, all_from, restored_from, store, blanks, blank_line, blank_lines, cut_line, cut_page, fill_line, fill_page, end_line, end_page}
+use Rattle.rules.specs.Step.{Ending, refusal, refusal_at, stopped, ◌>>=◌, pure, halt, attempt, look, change, branch, test, file_ended, signal, mood_on, backspace, reset, character_here, size, all_from, restored_from, store, blanks, blank_line, blank_lines, cut_line, cut_page, fill_line, fill_page, end_line, end_page}
 use Rattle.rules.specs.Steps.{string_end, printable, digit, fits_here, signals, signal_while, good_file_body, good_page_body, at_page_end_body, good_line_body, at_line_end_body, newline_body, newpage_body, set_to_body, perform_body, answered_body, character_event, put_character_body, room_for_body, pass_blanks_body, more_digits_body, space_step, set_character_number_body, body, spent, supply, bounded, execute}
 use Rattle.rules.specs.Steps as Steps
 use Rattle.rules.specs.Whole.{digits_up_to, signed, padded, whole_text, lowest, Written, whole}
-use Rattle.rules.specs.Calls.{chooses, choosing, Value, nothing, a_character, an_integer, a_view, a_string, begin, turnable, established, establishing, opening, closing, resetting, backspacing, shown, shown_length, shown_part, or_marker, viewing, view_number, put_characters, putting_characters, put_text, putting_integer, take_character, getting_character, one_of, string_character, get_characters, getting_string, first_digit, with_sign, integer_given, sign_before, take_integer, getting_integer, spacing, newlining, newpaging, setting_character_number, setting, Call, plain, asking, establishes, opens, closes, resets, backspaces, views, view_numbers, puts_character, puts_string, puts_integer, gets_character, gets_integer, spaces, newlines, newpages, gets_string, sets, sets_character_number, plain_work, asking_work, work, buffer_of, Book, book, Result, After, Ran, leave, call, run}
+use Rattle.rules.specs.Calls.{chooses, choosing, Value, nothing, an_integer, a_view, begin, turnable, established, establishing, opening, closing, resetting, backspacing, shown, shown_length, shown_part, or_marker, viewing, view_number, put_characters, putting_characters, put_text, putting_integer, take_character, getting_character, one_of, string_character, get_characters, getting_string, first_digit, with_sign, integer_given, sign_before, take_integer, getting_integer, spacing, newlining, newpaging, setting_character_number, setting, Call, plain, asking, establishes, closes, resets, views, view_numbers, puts_character, puts_string, puts_integer, gets_character, gets_integer, newlines, newpages, gets_string, sets, sets_character_number, plain_work, asking_work, work, buffer_of, Book, book, Result, After, leave, call, run}
 
 -- ---- books, records and calls in short
 

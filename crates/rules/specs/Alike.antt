@@ -1,6 +1,6 @@
 -- Demand 3: what two books alike are, and what holds of two runs of one list of calls over them. Sentences of document 01 stand in
 -- quotation marks. Assumes nothing: these are definitions; the claim is proved in the crate unseen.
-use Rattle.std.specs.Prelude.{◌≡◌, ℕ, ◌≤◌, List, length, get_or, T}
+use Rattle.std.specs.Prelude.{◌≡◌, ◌≤◌, List, length, get_or, T}
 use Rattle.rules.specs.declared.Position.{Position}
 use Rattle.rules.specs.declared.Shape.{Shape}
 use Rattle.rules.specs.declared.File.{File}

@@ -1,15 +1,14 @@
 -- The calls of document 01: their tests before work, in its order, their work, and what they hand back; and a list of calls over one
 -- record and one book. Sentences of document 01 stand in quotation marks. Assumes nothing: these are definitions.
-use Rattle.std.specs.Prelude.{ℕ, zero, suc, ◌+◌, ◌*◌, ◌-◌, Bool, true, false, not, ◌&&◌, ◌||◌, List, [], ◌∷◌, ◌++◌, length, take, drop, replicate, leb, ltb, eqb, ℤ, pos, negsuc}
+use Rattle.std.specs.Prelude.{ℕ, zero, suc, ◌*◌, ◌-◌, Bool, true, false, not, ◌&&◌, ◌||◌, List, [], ◌∷◌, ◌++◌, length, take, drop, replicate, leb, eqb, ℤ, pos, negsuc}
 use Rattle.rules.specs.declared.Position.{Position}
 use Rattle.rules.specs.declared.File.{File}
-use Rattle.rules.specs.declared.Run.{Run}
 use Rattle.rules.specs.declared.Given.{Given}
 use Rattle.rules.specs.declared.Given.TheVariants.{Nothing, Character, Integer}
 use Rattle.rules.specs.declared.Reply.{Reply}
-use Rattle.rules.specs.Book.{choose, place, before, within, page_length, line_length, character_index, State, state, on_run, with_lengths, here, end_of, shape_of, rights_of, file_as, file_choosing, file_opened, run_with, with_file, rewound, row_fits, shape_fits, book_fits, all_fits, Event}
-use Rattle.rules.specs.Step.{Ending, refusal_at, ending_as, Out, done, ends, Step, ◌>>=◌, ◌>>◌, pure, halt, refuse, refuse_at, stopped, finished, attempt, look, change, change_run, branch, test, need, again, pass, mood_on, backspace, reset, character_here, size}
-use Rattle.rules.specs.Steps.{Action, Gives, good_line, newline, newpage, set_to, put_character, room_for, pass_blanks, more_digits, set_character_number, printable, digit, signals, character_event, space_step, execute}
+use Rattle.rules.specs.Book.{choose, place, before, within, page_length, line_length, character_index, State, state, here, end_of, shape_of, rights_of, file_as, file_choosing, file_opened, run_with, with_file, rewound, row_fits, shape_fits, book_fits, all_fits, Event}
+use Rattle.rules.specs.Step.{Ending, refusal_at, ending_as, Out, done, ends, Step, ◌>>=◌, ◌>>◌, pure, halt, refuse_at, stopped, finished, attempt, look, change, change_run, branch, test, need, again, pass, mood_on, backspace, reset, character_here, size}
+use Rattle.rules.specs.Steps.{good_line, newline, newpage, set_to, put_character, room_for, pass_blanks, more_digits, set_character_number, printable, digit, signals, character_event, space_step, execute}
 use Rattle.rules.specs.Whole.{whole_text, lowest}
 
 -- what the work of a call gives: nothing, a character, an integer, a view's characters, or what a string delivered and how it ended

@@ -1,11 +1,11 @@
 -- The steps of document 01 that can signal an event, and so call each other. Each body below is written over `go`, the steps that
 -- it calls; `execute` ties the knot once. That `execute` of a step is its body over `execute` is a law (crate laws, Unfolding).
 -- Sentences of document 01 stand in quotation marks. Assumes nothing: these are definitions.
-use Rattle.std.specs.Prelude.{ℕ, zero, suc, ◌+◌, ◌*◌, ◌-◌, ◌^◌, Bool, true, false, not, ◌&&◌, ◌||◌, List, [], ◌∷◌, length, leb, ltb, eqb}
+use Rattle.std.specs.Prelude.{ℕ, zero, suc, ◌+◌, ◌*◌, ◌-◌, ◌^◌, Bool, true, false, not, ◌&&◌, ◌||◌, List, length, leb, ltb, eqb}
 use Rattle.rules.specs.declared.Position.{Position}
 use Rattle.rules.specs.declared.Run.{Run}
-use Rattle.rules.specs.Book.{choose, before, within, in_bounds, next_line, next_page, State, here, end_of, shape_of, rights_of, line_here, moved_to, Event, logical_end, physical_end, page_end, line_end, Answer, is_false, jump, is_true, Mending, suggest, suggested}
-use Rattle.rules.specs.Step.{Ending, Step, ◌>>=◌, ◌>>◌, pure, halt, refuse, refuse_at, refusal, stopped, attempt, look, change_run, branch, test, need, file_ended, page_ended, line_ended, on_end_page, on_end_line, again, go_to, go_to_end, pass, signal, mood_on, backspace, reset, character_here, store, end_line, end_page}
+use Rattle.rules.specs.Book.{choose, before, within, in_bounds, next_line, next_page, State, here, end_of, shape_of, rights_of, line_here, moved_to, Event, logical_end, physical_end, page_end, line_end, Answer, is_false, jump, is_true, Mending, suggested}
+use Rattle.rules.specs.Step.{Ending, Step, ◌>>=◌, ◌>>◌, pure, halt, refuse_at, refusal, stopped, attempt, look, change_run, branch, test, need, file_ended, page_ended, line_ended, on_end_page, on_end_line, again, go_to, go_to_end, pass, signal, mood_on, backspace, reset, character_here, store, end_line, end_page}
 
 -- A step that may signal an event. A first Bool says whether the call is reading or writing; a second, whether the step belongs to
 -- a string: got, its logical end and line end answered 0 are stops; put, its line end answered 0 follows the record's choice.

@@ -1,5 +1,5 @@
 -- whole(v, w): an integer as a text. Sentences of document 01 stand in quotation marks. Assumes nothing: these are definitions.
-use Rattle.std.specs.Prelude.{ℕ, zero, suc, ◌+◌, ◌*◌, ◌-◌, ◌/◌, ◌%◌, Bool, true, false, not, List, [], ◌∷◌, ◌++◌, length, drop, replicate, leb, ltb, eqb, ℤ, pos, negsuc, nat_abs}
+use Rattle.std.specs.Prelude.{ℕ, zero, suc, ◌+◌, ◌-◌, ◌/◌, ◌%◌, Bool, true, false, not, List, [], ◌∷◌, ◌++◌, length, drop, replicate, leb, ltb, eqb, ℤ, pos, negsuc, nat_abs}
 use Rattle.rules.specs.Book.{choose}
 
 -- the digits of a number that has at most k of them, without leading zeros

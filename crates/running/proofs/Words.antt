@@ -1,9 +1,9 @@
 -- What an answer word leaves to a character event, by its kind. Assumes nothing.
 use Prim.Native.Nat.{ℕ}
-use mathlib.Core.Path.{◌≡◌, refl, sym, ap, ◌∙◌}
+use mathlib.Core.Path.{◌≡◌, refl, ap}
 use mathlib.Core.Bool.{Bool, true, false}
 use lib.Dec.{eqb}
-use borrow.Author.Tests.{eq-eqb, ne_eqb}
+use borrow.Author.Tests.{ne_eqb}
 use Rattle.rules.specs.Book.{choose, kind_of, character_of, place_of, mending_of, suggested, Mending, suggest}
 
 pub suggested_seven : (w b : ℕ) → kind_of w ≡ 7 → suggested (mending_of w) b ≡ character_of w

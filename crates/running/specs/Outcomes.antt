@@ -1,5 +1,5 @@
 -- Backspace and reset as the code has them: what each leaves of a running call.
-use Rattle.std.specs.Prelude.{ℕ, ltb}
+use Rattle.std.specs.Prelude.{ltb}
 use Rattle.rules.specs.declared.Run.{Run}
 use Rattle.rules.specs.declared.Outcome.{Outcome}
 use Rattle.rules.specs.Book.{choose, previous_character, moved_to, with_file, rewound}

@@ -1,19 +1,12 @@
 -- Runs of ordinary characters, turn by turn, and the room for them. Assumes nothing.
-use Prim.Native.Nat.{ℕ, zero, suc, ◌+◌, ◌-◌, ◌≤◌, ◌<◌}
+use Prim.Native.Nat.{ℕ, ◌+◌, ◌-◌, ◌≤◌}
 use native.Mathlib.Omega.{arith}
-use native.Mathlib.Numerals.{add-one}
-use mathlib.Core.Path.{◌≡◌, refl, sym, ap, subst, ◌∙◌}
-use mathlib.Core.List.{List, [], ◌∷◌, ◌++◌}
-use mathlib.Core.Bool.{Bool, true, false, not, ◌&&◌, ◌||◌}
-use lib.Dec.{eqb}
-use lib.ListN.{length, get_or, take, drop, length-drop, drop_of_length-le}
-use lib.Seq.{drop-cons, take-suc, get_or-drop}
+use mathlib.Core.Path.{◌≡◌, sym, ◌∙◌}
+use mathlib.Core.Bool.{Bool, true, false}
 use Rattle.rules.specs.Book.{character_index, State, here, end_of, shape_of, line_here}
 use Rattle.rules.specs.Step.{on_end_line}
-use Rattle.rules.specs.Steps.{printable, rank}
+use Rattle.rules.specs.Steps.{rank}
 use Rattle.rules.specs.Ready.{Valid}
-use Rattle.rules.specs.Calls.{one_of}
-use Rattle.laws.specs.Runs.{every, ordinary}
 use Rattle.laws.proofs.Validity.{same_line, next_line_le}
 use Rattle.places.specs.Good.{line_good}
 use Rattle.strings.specs.Parts.{Room}

@@ -2,11 +2,11 @@
 use Rattle.std.specs.Prelude.{ℕ, ◌+◌, ◌-◌, ◌<◌, ◌≤◌, ◌≡◌, List, Bool, true, false, length, take, drop}
 use Rattle.rules.specs.declared.Outcome.{Outcome}
 use Rattle.rules.specs.Book.{choose, character_index, State, state, here, end_of, shape_of, line_here}
-use Rattle.rules.specs.Step.{ending_by, Out, done, ends, going}
+use Rattle.rules.specs.Step.{ending_by, done, ends, going}
 use Rattle.rules.specs.Steps.{put_character, pass_blanks, rank, printable, measure}
 use Rattle.laws.specs.Runs.{every, ordinary}
 use Rattle.rules.specs.Ready.{Ready}
-use Rattle.rules.specs.Calls.{Value, a_string, put_characters, get_characters}
+use Rattle.rules.specs.Calls.{a_string, put_characters, get_characters}
 use Rattle.places.specs.Good.{line_good}
 
 -- n characters from the position on: on a good line, in a text of some size and, reading, before the logical end

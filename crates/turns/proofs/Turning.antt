@@ -1,22 +1,22 @@
 -- A turn to the next line is what the rules do at that line end, and what follows it is what followed from before it. Assumes nothing.
-use Prim.Native.Nat.{ℕ, zero, suc, ◌+◌, ◌-◌, ◌<◌, ◌≤◌}
+use Prim.Native.Nat.{ℕ, zero, suc, ◌<◌}
 use native.Mathlib.Omega.{arith}
-use mathlib.Core.Path.{◌≡◌, refl, sym, ap, subst, ◌∙◌}
+use mathlib.Core.Path.{◌≡◌, refl, sym, ap, ◌∙◌}
 use mathlib.Core.Bool.{Bool, true, false, not, ◌&&◌}
-use mathlib.Core.List.{List, [], ◌∷◌, ◌++◌}
+use mathlib.Core.List.{List, [], ◌∷◌}
 use lib.Dec.{eqb}
-use lib.ListN.{length, take, drop, length-drop}
+use lib.ListN.{length}
 use borrow.Author.Tests.{eq-eqb, ne_eqb, eqb-true, not-true}
 use Rattle.rules.specs.declared.Run.{Run}
 use Rattle.rules.specs.declared.Event.TheVariants.{LineEnd}
 use Rattle.rules.specs.Book.{choose, State, state, on_run, here, end_of, moved_to, both_moved_to, next_line, signalled_by, next_word, kind_of, mending_of, in_mood, rights_of}
-use Rattle.rules.specs.Step.{Out, done, ends, Step, ◌>>=◌, and_then, caught, attempt, pure, outcome, done_by, file_ended, page_ended, line_ended, on_end_line, end_line, test, branch, change, fill_line, cut_line}
-use Rattle.rules.specs.Steps.{good_page, good_line, at_line_end, newline, answered, put_character, put_character_body, body, execute}
+use Rattle.rules.specs.Step.{Out, done, ends, ◌>>=◌, and_then, caught, attempt, done_by, file_ended, page_ended, line_ended, on_end_line, end_line, change, fill_line, cut_line}
+use Rattle.rules.specs.Steps.{good_line, at_line_end, newline, answered, put_character, put_character_body, body, execute}
 use Rattle.rules.specs.Ready.{Ready}
 use Rattle.rules.specs.Calls.{put_characters, string_character, get_characters}
-use Rattle.laws.proofs.Progress.{From, from_start}
+use Rattle.laws.proofs.Progress.{from_start}
 use Rattle.laws.proofs.Unfolding.{unfold_execute}
-use Rattle.laws.proofs.Ways.{Asked, from_default, from_answer, bind_done, branch_true, branch_false, test_true, test_false, change_then}
+use Rattle.laws.proofs.Ways.{Asked, from_default, from_answer, bind_done, test_true, test_false}
 use Rattle.laws.proofs.Runs.{both_true}
 use Rattle.laws.proofs.Cases.{newline_page, newline_closes, held_again}
 use Rattle.laws.proofs.Lines.{law_good_line, good_line_page, good_page_at_once, line_end_splits, line_end_follows, follow_newline, written_done}

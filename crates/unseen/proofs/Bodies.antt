@@ -1,16 +1,15 @@
 -- Every action keeps two texts alike: the proof of each is its definition with `sim-` in front. Assumes nothing.
-use mathlib.Core.Path.{◌≡◌, refl, sym, ap, subst, ◌∙◌}
 use Prim.Native.Nat.{ℕ, zero, suc, ◌+◌, ◌*◌, ◌-◌}
 use mathlib.Core.Bool.{Bool, true, false, not, ◌&&◌, ◌||◌}
-use mathlib.Core.List.{List, [], ◌∷◌}
+use mathlib.Core.List.{List}
 use lib.Dec.{T, leb, ltb, eqb}
 use Rattle.rules.specs.declared.Position.{Position}
 use Rattle.rules.specs.declared.Rights.{Rights}
 use Rattle.rules.specs.Book.{before, within, in_bounds, Lengths, State, here, end_of, shape_of, rights_of, line_here, Event, logical_end, page_end, line_end, Mending, suggested}
-use Rattle.rules.specs.Step.{Ending, Step, pure, stopped, file_ended, page_ended, line_ended, on_end_page, on_end_line, pass}
+use Rattle.rules.specs.Step.{Step, pure, stopped, file_ended, page_ended, line_ended, on_end_page, on_end_line, pass}
 use Rattle.rules.specs.Steps.{string_end, Action, Gives, good_file, good_page, good_line, at_page_end, at_line_end, newline, newpage, set_to, perform, answered, put_character, room_for, pass_blanks, more_digits, set_character_number, printable, digit, fits_here, backspaces, is_stop, file_end, file_end_number, signals, signal_while, good_file_body, good_page_body, at_page_end_body, good_line_body, at_line_end_body, newline_body, newpage_body, set_to_body, perform_body, answered_body, character_event, put_character_body, room_for_body, pass_blanks_body, more_digits_body, space_step, set_character_number_body, body, measure, bound_met, bounded, execute}
 use Rattle.unseen.proofs.Sim.{Sim, Any, Free, Safe, sim_pure, sim_halt, sim_refuse, sim_bind, sim_test, sim_branch, sim_upon, sim_look, sim_weak, sim_attempt, from, given}
-use Rattle.unseen.proofs.Moves.{Right, AtEnd, FileOk, PageOk, LineOk, sim_again, sim_signal, sim_need, sim_mood_on, sim_go_to_end, sim_line_end, sim_page_end, sim_backspace, sim_reset, sim_pass, sim_next_line, sim_next_page, sim_go_to}
+use Rattle.unseen.proofs.Moves.{Right, FileOk, PageOk, LineOk, sim_again, sim_signal, sim_need, sim_mood_on, sim_go_to_end, sim_line_end, sim_page_end, sim_backspace, sim_reset, sim_pass, sim_next_line, sim_next_page, sim_go_to}
 use Rattle.unseen.proofs.Texts.{ok_before, sim_character, sim_store, sim_end_line, sim_end_page}
 
 -- what holds after an action

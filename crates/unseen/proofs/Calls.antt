@@ -2,29 +2,27 @@
 -- Assumes nothing.
 use mathlib.Core.Path.{◌≡◌, refl, sym, ap, subst, ◌∙◌}
 use Prim.Native.Nat.{ℕ, zero, suc, ◌+◌, ◌*◌, ◌-◌, ◌≤◌, ◌<◌}
-use mathlib.Core.Logic.{◌⊎◌, inl, inr}
+use mathlib.Core.Logic.{inl, inr}
 use native.Mathlib.Omega.{arith}
 use native.Mathlib.Nat.{eq_of_mul-eq-mul_left}
 use mathlib.Core.Bool.{Bool, true, false, not, ◌&&◌, ◌||◌}
 use mathlib.Core.List.{List, [], ◌∷◌, ◌++◌}
 use lib.ListN.{take, drop, length-take, length-drop, length, get_or}
 use lib.Seq.{ext_get_or, get_or-take, get_or-drop}
-use lib.Dec.{T, leb, ltb, eqb, leb→le, eqb→eq}
+use lib.Dec.{T, leb, eqb, leb→le, eqb→eq}
 use lib.IntN.{ℤ, pos}
 use Rattle.rules.specs.declared.Position.{Position}
 use Rattle.rules.specs.declared.Shape.{Shape}
 use Rattle.rules.specs.declared.Rights.{Rights}
-use Rattle.rules.specs.declared.File.{File}
-use Rattle.rules.specs.declared.Run.{Run}
-use Rattle.rules.specs.Book.{file_choosing, choose, place, before, within, in_bounds, Lengths, lengths, page_length, line_index, line_length, character_index, State, on_run, here, end_of, shape_of, rights_of, with_file, file_opened, rewound, Event, legal, sizes_fit, all_up_to, lengths_fit, some_right, shape_fits, book_fits, moods_fit, all_fits, row_fits}
-use Rattle.rules.specs.Step.{Ending, Out, done, ends, Step, ◌>>=◌, and_then, caught, pure, halt, refuse, refusal_at, stopped, attempt, look, change, change_run, branch, test, need, again, pass, mood_on, backspace, reset, size}
-use Rattle.rules.specs.Steps.{Action, Gives, good_line, newline, newpage, set_to, put_character, room_for, pass_blanks, more_digits, set_character_number, printable, digit, execute}
+use Rattle.rules.specs.Book.{file_choosing, choose, place, before, within, Lengths, page_length, line_index, line_length, character_index, State, on_run, here, end_of, shape_of, rights_of, with_file, file_opened, rewound, Event, legal, sizes_fit, all_up_to, lengths_fit, some_right, shape_fits, book_fits, moods_fit, all_fits, row_fits}
+use Rattle.rules.specs.Step.{Ending, Out, done, ends, Step, ◌>>=◌, and_then, caught, pure, halt, refuse, refusal_at, stopped, attempt, look, change, change_run, branch, test, need, size}
+use Rattle.rules.specs.Steps.{good_line, newline, newpage, set_to, put_character, room_for, pass_blanks, more_digits, set_character_number, printable, digit, execute}
 use Rattle.rules.specs.Whole.{whole_text, lowest}
-use Rattle.rules.specs.Calls.{choosing, chooses, Value, nothing, a_character, an_integer, a_view, a_string, begin, need_row, turnable, turn, putting, getting, established, establishing, opening, closing, resetting, backspacing, shown, shown_length, shown_part, or_marker, viewing, view_number, put_characters, putting_characters, put_text, putting_integer, take_character, getting_character, one_of, string_character, get_characters, getting_string, first_digit, with_sign, integer_given, sign_before, take_integer, getting_integer, in_mood_on, spacing, newlining, newpaging, setting_character_number, setting, Plain, establishes, opens, closes, resets, backspaces, views, view_numbers, Asking, puts_character, puts_string, puts_integer, gets_character, gets_integer, spaces, newlines, newpages, gets_string, sets, sets_character_number, Call, plain, asking, plain_work, asking_work, work}
+use Rattle.rules.specs.Calls.{choosing, chooses, nothing, a_character, an_integer, a_view, a_string, begin, need_row, turnable, turn, putting, getting, established, establishing, opening, closing, resetting, backspacing, shown, shown_length, shown_part, or_marker, viewing, view_number, put_characters, putting_characters, put_text, putting_integer, take_character, getting_character, one_of, string_character, get_characters, getting_string, first_digit, with_sign, integer_given, sign_before, take_integer, getting_integer, in_mood_on, spacing, newlining, newpaging, setting_character_number, setting, establishes, opens, closes, resets, backspaces, views, view_numbers, Asking, puts_character, puts_string, puts_integer, gets_character, gets_integer, spaces, newlines, newpages, gets_string, sets, sets_character_number, Call, plain, asking, plain_work, asking_work, work}
 use Rattle.rules.specs.Alike.{Seen}
 use Rattle.rules.specs.Rewritten.{shrank}
-use Rattle.laws.proofs.Order.{yes, and_l, and_r, not_and, neqb→neq, Lt, by_page, by_line, by_character, Le, le_page, le_line, le_character, before→Lt, Lt→before, nbefore→Le}
-use Rattle.laws.proofs.Entry.{all_get_d, Legal, legal_facts, Sizes, sizes_facts, Fits, fits_facts}
+use Rattle.laws.proofs.Order.{and_l, and_r, not_and, neqb→neq, Lt, by_page, by_line, by_character, Le, le_page, le_line, le_character, before→Lt, Lt→before, nbefore→Le}
+use Rattle.laws.proofs.Entry.{all_get_d, Legal, legal_facts, Sizes, sizes_facts, fits_facts}
 use Rattle.unseen.proofs.Sim.{Moods, Sound, Inv, fits, Vis, Alike, Agree, Rel, both, over, Sim, Any, Free, Safe, sim_pure, sim_halt, sim_refuse, sim_bind, sim_test, sim_branch, sim_look, sim_change, sim_weak, sim_attempt, from, given}
 use Rattle.unseen.proofs.Moves.{Right, LineOk, sim_again, sim_need, sim_mood_on, sim_backspace, sim_reset}
 use Rattle.unseen.proofs.Texts.{sim_character}

@@ -1,5 +1,5 @@
 -- Demand 3: one claim about the whole list of calls. Assumes nothing.
-use mathlib.Core.Path.{◌≡◌, refl, sym, ap, subst, ◌∙◌}
+use mathlib.Core.Path.{◌≡◌, refl, subst}
 use Prim.Native.Nat.{ℕ}
 use mathlib.Core.Bool.{Bool}
 use mathlib.Core.List.{List, [], ◌∷◌}
@@ -7,7 +7,7 @@ use lib.ListN.{length}
 use Rattle.rules.specs.declared.File.{File}
 use Rattle.rules.specs.Book.{State, end_of, run_with}
 use Rattle.rules.specs.Step.{Ending, Out, finished}
-use Rattle.rules.specs.Calls.{Value, nothing, a_character, an_integer, a_view, a_string, Call, work, buffer_of, Book, Result, After, enter, hand_back, leave, call, Ran, run}
+use Rattle.rules.specs.Calls.{Value, nothing, a_character, an_integer, a_view, a_string, Call, work, buffer_of, Book, After, enter, hand_back, leave, call, run}
 use Rattle.rules.specs.Alike.{BooksAlike, RunsAlike, Demand3}
 use Rattle.unseen.proofs.Calls.{Loosely, LRel, lboth, lover, loose_work}
 

@@ -1,31 +1,31 @@
 -- What every call keeps: the book's rules, moods and position (document 01, "The book" and "The file record and its moods"); and which lengths
 -- can grow but at establish (document 02, C-13). Assumes nothing.
-use mathlib.Core.Path.{◌≡◌, refl, sym, ap, subst, ◌∙◌}
+use mathlib.Core.Path.{◌≡◌, refl, sym, subst}
 use mathlib.Core.Logic.{◌≢◌}
-use Prim.Native.Nat.{ℕ, zero, suc, ◌+◌, ◌*◌, ◌-◌, ◌≤◌, ◌<◌}
+use Prim.Native.Nat.{ℕ, zero, suc, ◌+◌, ◌*◌, ◌≤◌}
 use native.Mathlib.Omega.{arith}
 use mathlib.Core.Bool.{Bool, true, false, not, ◌&&◌, ◌||◌}
 use mathlib.Core.List.{List, [], ◌∷◌}
 use lib.ListN.{length, get_or, replicate, length-replicate}
-use lib.Dec.{T, leb, ltb, eqb}
+use lib.Dec.{T}
 use borrow.Author.Tests.{le-leb, eq-eqb}
 use Rattle.rules.specs.declared.Position.{Position}
 use Rattle.rules.specs.declared.Shape.{Shape}
 use Rattle.rules.specs.declared.Rights.{Rights}
 use Rattle.rules.specs.declared.File.{File}
 use Rattle.rules.specs.Book.{file_choosing, place, before, within, in_bounds, Lengths, State, on_run, here, end_of, shape_of, rights_of, with_file, file_opened, rewound, page_length, line_length, legal, sizes_fit, all_up_to, lengths_fit, some_right, shape_fits, book_fits, moods_fit, all_fits}
-use Rattle.rules.specs.Step.{Out, done, ends}
+use Rattle.rules.specs.Step.{Out}
 use Rattle.rules.specs.Steps.{rank}
 use Rattle.rules.specs.Ready.{InBounds, Rules, Valid}
-use Rattle.rules.specs.Calls.{Value, nothing, a_character, an_integer, a_view, a_string, established, Plain, establishes, opens, closes, chooses, resets, backspaces, views, view_numbers, Call, plain, asking, work, buffer_of, Book, After, enter, leave, call}
+use Rattle.rules.specs.Calls.{Value, nothing, a_character, an_integer, a_view, a_string, established, establishes, opens, closes, chooses, resets, backspaces, views, view_numbers, Call, plain, asking, buffer_of, Book, After, enter, leave, call}
 use Rattle.rules.specs.Alike.{lengths_of}
-use Rattle.rules.specs.Rewritten.{Shrunk, Became, shrank, LengthsKept}
+use Rattle.rules.specs.Rewritten.{Became, shrank, LengthsKept}
 use Rattle.laws.proofs.Order.{and_l, and_r, or_r, split, yes, is_yes}
-use Rattle.laws.proofs.Validity.{Near, near_at, near_end, near_in, before_true, in_bounds_lem, line_length_le, page_length_le}
+use Rattle.laws.proofs.Validity.{Near, near_at, near_end, before_true, in_bounds_lem}
 use Rattle.laws.proofs.Entry.{all_get_d, Legal, legal_facts, Sizes, sizes_facts}
 use Rattle.unseen.proofs.Sim.{Moods, Inv}
 use Rattle.unseen.proofs.Moves.{rewound_moods}
-use Rattle.unseen.proofs.Calls.{Loosely, Kept, unchanged, worked, reopened, begun, LRel, lboth, lover, growing, loose_work}
+use Rattle.unseen.proofs.Calls.{Kept, unchanged, worked, reopened, begun, LRel, lboth, lover, growing, loose_work}
 
 -- ---- from facts to the tests of refusal 3
 

@@ -1,21 +1,20 @@
 -- The steps that touch the position, the end, the moods or the counts keep two texts alike. Assumes nothing.
-use mathlib.Core.Path.{◌≡◌, refl, sym, ap, subst, ◌∙◌}
-use Prim.Native.Nat.{ℕ, zero, suc, ◌+◌, ◌*◌, ◌-◌, ◌≤◌, ◌<◌}
+use mathlib.Core.Path.{◌≡◌, refl, sym, subst}
+use Prim.Native.Nat.{ℕ, ◌≤◌}
 use native.Mathlib.Omega.{arith}
-use mathlib.Core.Bool.{Bool, true, false, not, ◌&&◌, ◌||◌}
+use mathlib.Core.Bool.{Bool, true, false, not, ◌||◌}
 use mathlib.Core.List.{List}
-use lib.ListN.{length}
-use lib.Dec.{T, ltb, eqb}
+use lib.Dec.{T, ltb}
 use borrow.Author.Tests.{ltb-true, eqb-true}
 use Rattle.rules.specs.declared.Position.{Position}
 use Rattle.rules.specs.declared.Rights.{Rights}
 use Rattle.rules.specs.declared.Run.{Run}
-use Rattle.rules.specs.Book.{choose, place, before, next_character, previous_character, next_line, next_page, in_bounds, Lengths, State, on_run, here, end_of, shape_of, rights_of, moved_to, in_mood, with_file, rewound, Event, signalled_by}
-use Rattle.rules.specs.Step.{Step, ◌>>=◌, pure, refusal, change_run, change, test, need, file_ended, page_ended, line_ended, on_end_page, on_end_line, again, go_to, go_to_end, pass, signal, mood_on, backspace, reset, size}
+use Rattle.rules.specs.Book.{choose, before, next_character, previous_character, next_line, next_page, in_bounds, Lengths, State, on_run, here, end_of, shape_of, rights_of, moved_to, in_mood, with_file, rewound, Event}
+use Rattle.rules.specs.Step.{Step, pure, refusal, change_run, need, file_ended, page_ended, line_ended, on_end_page, on_end_line, again, go_to, go_to_end, pass, signal, mood_on, backspace, reset, size}
 use Rattle.rules.specs.Ready.{Rules}
-use Rattle.laws.proofs.Order.{yes, no, is_yes, is_no}
+use Rattle.laws.proofs.Order.{yes, no}
 use Rattle.laws.proofs.Validity.{rules_moved, end_valid, same_line, writing_within, next_line_valid, next_page_valid, pass_valid, back_valid, first_valid, near_end, near_in, before_false, in_bounds_lem}
-use Rattle.unseen.proofs.Sim.{Moods, Sound, Inv, Alike, Agree, Rel, both, over, Sim, Any, Free, Safe, sim_pure, sim_halt, sim_bind, sim_test, sim_change, sim_weak, from, given}
+use Rattle.unseen.proofs.Sim.{Moods, Inv, Rel, both, Sim, Any, Free, Safe, sim_pure, sim_halt, sim_bind, sim_test, sim_change, sim_weak}
 
 -- the right that a mood has
 abbrev pub Right : Rights → Bool → Type 0

@@ -17,7 +17,7 @@ use Rattle.rules.specs.Book.{place, before, Lengths, lengths, State, on_run, rig
 use Rattle.rules.specs.Step.{Out, Step, ◌>>=◌, and_then, pure, file_ended, restored_from}
 use Rattle.rules.specs.Steps.{put_character, printable}
 use Rattle.rules.specs.Ready.{Ready}
-use Rattle.rules.specs.Calls.{Value, nothing, putting, turnable, put_characters, putting_characters, Call, asking_work, work, buffer_of, Book, enter, leave, call, run}
+use Rattle.rules.specs.Calls.{Value, nothing, putting, turnable, put_characters, putting_characters, Call, asking_work, work, buffer_of, Book, enter, leave, call}
 use Rattle.rules.specs.Alike.{lengths_of}
 use Rattle.rules.specs.Rewritten.{AtStart, FirstNight, LaterNight, Begins, character, string, AsOnFirstNight}
 use Rattle.laws.specs.Runs.{stored_by}

@@ -1,17 +1,17 @@
 -- Two runs of one step on two texts that agree where they are seen: the relation, what every state in between keeps, and a rule for each
 -- way to build a step. Both runs share the state; only the texts differ. Assumes nothing.
-use mathlib.Core.Path.{◌≡◌, refl, sym, ap, subst, ◌∙◌}
-use mathlib.Core.Logic.{◌⊎◌, inl, inr}
-use Prim.Native.Nat.{ℕ, zero, suc, ◌+◌, ◌*◌, ◌-◌, ◌≤◌, ◌<◌}
+use mathlib.Core.Path.{◌≡◌, refl}
+use mathlib.Core.Logic.{inl, inr}
+use Prim.Native.Nat.{ℕ, ◌+◌, ◌*◌, ◌≤◌}
 use native.Mathlib.Omega.{arith}
 use mathlib.Core.Bool.{Bool, true, false, not, ◌||◌, ◌&&◌}
-use mathlib.Core.List.{List, [], ◌∷◌}
+use mathlib.Core.List.{List}
 use lib.ListN.{length, get_or}
 use lib.Dec.{T}
 use Rattle.rules.specs.declared.Position.{Position}
 use Rattle.rules.specs.declared.Shape.{Shape}
 use Rattle.rules.specs.declared.Rights.{Rights}
-use Rattle.rules.specs.Book.{choose, Lengths, State, here, end_of, shape_of, rights_of, page_length, line_length, character_index, Event, Mending, Answer, is_false, jump, is_true}
+use Rattle.rules.specs.Book.{Lengths, State, here, end_of, shape_of, rights_of, page_length, line_length, character_index, Event, Mending, Answer, is_false, jump, is_true}
 use Rattle.rules.specs.Step.{Ending, Out, done, ends, Step, ◌>>=◌, pure, halt, refuse_at, look, change, test, branch, and_then, caught, attempt}
 use Rattle.rules.specs.Steps.{upon, rank}
 use Rattle.rules.specs.Ready.{Rules}

@@ -12,8 +12,8 @@ use borrow.Author.Tests.{ltb-false}
 use Rattle.rules.specs.declared.Position.{Position}
 use Rattle.rules.specs.declared.Shape.{Shape}
 use Rattle.rules.specs.declared.Rights.{Rights}
-use Rattle.rules.specs.Book.{choose, place, before, next_character, next_line, next_page, Lengths, lengths, State, here, end_of, shape_of, rights_of, line_here, both_moved_to, page_length, line_index, line_length, character_index}
-use Rattle.rules.specs.Step.{done, ends, Step, ◌>>=◌, and_then, pure, change, change_run, test, branch, file_ended, page_ended, line_ended, character_here, goes_back, restored_from, came_to, store, blanks, blank_line, blank_lines, cut_line, fill_line, end_line, cut_page, fill_page, end_page}
+use Rattle.rules.specs.Book.{choose, place, before, next_character, next_line, next_page, Lengths, State, here, end_of, shape_of, rights_of, line_here, both_moved_to, page_length, line_index, line_length, character_index}
+use Rattle.rules.specs.Step.{done, Step, ◌>>=◌, and_then, pure, change, change_run, test, branch, file_ended, page_ended, line_ended, character_here, goes_back, restored_from, came_to, store, blanks, blank_line, blank_lines, cut_line, fill_line, end_line, cut_page, fill_page, end_page}
 use Rattle.rules.specs.Ready.{Rules}
 use Rattle.rules.specs.Rewritten.{Shrunk, regains, EstablishedFrom, Became, shrank, came_back}
 use Rattle.laws.proofs.Order.{and_l, and_i, no, is_yes, lt_or_ge, not_not, Lt, by_page, by_line, by_character, Le, Same, Pos1, before→Lt, Lt-Le, lt_next, le_split, set_keep, set_hit, set_le, set_shrinks}

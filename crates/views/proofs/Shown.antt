@@ -5,24 +5,22 @@ use mathlib.Core.Path.{◌≡◌, refl, sym, ap, ◌∙◌}
 use mathlib.Core.Bool.{Bool, true, false, not, ◌&&◌}
 use mathlib.Core.List.{List, [], ◌∷◌}
 use lib.Dec.{eqb}
-use lib.ListN.{length, take, drop, get_or, length-drop}
+use lib.ListN.{length, take, drop, length-drop}
 use lib.Seq.{length-take-le, take-length}
 use borrow.Author.Tests.{le-leb, lt-leb, eq-eqb, ne_eqb, eqb-true, eqb-false}
 use Rattle.rules.specs.declared.Position.{Position}
 use Rattle.rules.specs.declared.File.{File}
 use Rattle.rules.specs.declared.Run.{Run}
 use Rattle.rules.specs.declared.Reply.{Reply}
-use Rattle.rules.specs.declared.Shape.{Shape}
-use Rattle.rules.specs.Book.{choose, place, before, within, Lengths, page_length, line_length, character_index, State, state, run_with, end_of, shape_of, all_fits}
-use Rattle.rules.specs.Step.{Out, done, ends, Step, ◌>>=◌, ◌>>◌, pure, refusal, need, attempt, refused_by}
-use Rattle.rules.specs.Ready.{Rules, Valid}
-use Rattle.rules.specs.Calls.{Value, nothing, a_view, begin, shown, shown_length, shown_part, or_marker, viewing, view_number, leave, After, after, Book, book, call, work, plain_work, buffer_of, plain, views, view_numbers}
+use Rattle.rules.specs.Book.{choose, place, before, within, page_length, line_length, character_index, State, state, run_with, end_of, shape_of}
+use Rattle.rules.specs.Step.{done, ends, Step, ◌>>◌, pure, refusal, need}
+use Rattle.rules.specs.Calls.{nothing, a_view, begin, shown, shown_length, shown_part, or_marker, viewing, view_number, leave, after, Book, book, call, work, plain_work, buffer_of, plain, views, view_numbers}
 use Rattle.places.specs.Small.{Small}
 use Rattle.laws.proofs.Ways.{need_true, need_false, attempt_done, attempt_ends}
 use Rattle.laws.proofs.Entry.{Fits, fits_facts}
 use Rattle.laws.proofs.Shown.{shown_facts, page_in, line_in, shown_in_text}
 use Rattle.entry.specs.Before.{before_work, refused_reply}
-use Rattle.begins.proofs.Begins.{start_of, begin_is, checked_fits, checked_no, checked_on, reply_refused, reply_nothing}
+use Rattle.begins.proofs.Begins.{start_of, checked_fits, checked_no, checked_on, reply_refused}
 use Rattle.views.specs.declared.Span.{Span}
 use Rattle.views.specs.declared.ViewPlace.{ViewPlace}
 use Rattle.views.specs.Spans.{span, no_span, line_span, span_of, view_after, number_after, view_place, place_of, Viewed}

@@ -1,7 +1,6 @@
 use Rattle.characters.proofs.Runs.{ordinary_all, ordinary_some_not}
 use lib.ListN.{take, drop}
 use mathlib.Core.Path.{sym, ◌∙◌}
-use borrow.Author.Rules.{rules}
 use Rattle.characters.proofs.all_ordinary.Goals as goal
 
 pub returns-then-all_printable : goal.returns-then-all_printable

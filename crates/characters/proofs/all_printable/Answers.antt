@@ -1,13 +1,5 @@
 use Rattle.characters.proofs.Runs.{printable_none, printable_next, printable_high, printable_low}
-use Rattle.rules.specs.Steps.{printable}
-use mathlib.Core.Bool.{◌&&◌}
-use lib.Dec.{leb}
-use Rattle.laws.specs.Runs.{every}
-use lib.ListN.{length, take, drop}
-use Prim.Native.Nat.{◌+◌, ◌-◌, ◌≤◌}
 use native.Mathlib.Omega.{arith}
-use mathlib.Core.Path.{◌≡◌}
-use borrow.Author.Rules.{rules}
 use Rattle.characters.proofs.all_printable.Goals as goal
 
 pub loop-i-init : goal.loop-i-init

@@ -1,12 +1,5 @@
 use Rattle.characters.proofs.Runs.{absent_none, absent_next, absent_last}
-use Rattle.characters.specs.Passes.{other}
-use lib.Dec.{eqb}
-use Rattle.laws.specs.Runs.{every}
-use lib.ListN.{length, take, drop}
-use Prim.Native.Nat.{◌+◌, ◌-◌, ◌≤◌}
 use native.Mathlib.Omega.{arith}
-use mathlib.Core.Path.{◌≡◌}
-use borrow.Author.Rules.{rules}
 use Rattle.characters.proofs.is_absent.Goals as goal
 
 pub loop-i-init : goal.loop-i-init

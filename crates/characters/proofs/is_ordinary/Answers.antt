@@ -1,6 +1,5 @@
-use mathlib.Core.Path.{◌≡◌, refl, sym, ap, ◌∙◌}
+use mathlib.Core.Path.{sym, ◌∙◌}
 use Rattle.characters.proofs.Runs.{ordinary_as, ordinary_not}
-use borrow.Author.Rules.{rules}
 use Rattle.characters.proofs.is_ordinary.Goals as goal
 
 pub returns-then-is_printable : goal.returns-then-is_printable

@@ -1,12 +1,7 @@
 use Rattle.characters.proofs.Runs.{outside_all, outside_found, outside_next}
-use Rattle.characters.specs.Passes.{outside}
-use Rattle.laws.specs.Runs.{every}
-use lib.ListN.{length, take, drop}
-use Prim.Native.Nat.{◌+◌, ◌-◌, ◌≤◌}
+use lib.ListN.{take, drop}
 use native.Mathlib.Omega.{arith}
-use mathlib.Core.Path.{◌≡◌, refl, sym, ◌∙◌}
-use borrow.Author.Tests.{not-true, not-false}
-use borrow.Author.Rules.{rules}
+use mathlib.Core.Path.{refl}
 use Rattle.characters.proofs.none_ends.Goals as goal
 
 pub loop-i-init : goal.loop-i-init

@@ -1,12 +1,8 @@
-use Rattle.characters.proofs.Runs.{outside_all, outside_found, outside_next}
 use Rattle.characters.specs.Passes.{outside}
 use Rattle.laws.specs.Runs.{every}
 use lib.ListN.{length, take, drop}
-use Prim.Native.Nat.{◌+◌, ◌-◌, ◌≤◌}
-use native.Mathlib.Omega.{arith}
-use mathlib.Core.Path.{◌≡◌, refl, sym, ◌∙◌}
-use borrow.Author.Tests.{not-true, not-false}
-use borrow.Author.Rules.{rules}
+use Prim.Native.Nat.{◌-◌}
+use mathlib.Core.Path.{◌≡◌}
 use Rattle.characters.proofs.none_ends.Given as goal
 
 abbrev pub invariant-loop-i : goal.invariant-loop-i

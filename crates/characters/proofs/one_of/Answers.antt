@@ -1,12 +1,7 @@
-use borrow.Author.Rules.{rules}
-use lib.ListN.{length}
-use mathlib.Core.Path.{◌≡◌, refl, sym, ap, ◌∙◌}
+use mathlib.Core.Path.{refl}
 use native.Mathlib.Omega.{arith}
 use Rattle.characters.proofs.Runs.{one_none, one_found, one_next}
-use Rattle.rules.specs.Calls.{one_of}
 use borrow.Author.Tests.{eq-eqb, ne_eqb}
-use lib.ListN.{drop}
-use Prim.Native.Nat.{◌-◌}
 use Rattle.characters.proofs.one_of.Goals as goal
 
 pub loop-i-init : goal.loop-i-init

@@ -1,13 +1,7 @@
 use Rattle.characters.proofs.Runs.{every_none, every_next}
-use Rattle.laws.specs.Runs.{ordinary}
-use mathlib.Core.Bool.{true}
-use Rattle.laws.specs.Runs.{every}
-use lib.ListN.{length, take, drop}
-use Prim.Native.Nat.{◌+◌, ◌-◌, ◌≤◌}
+use lib.ListN.{drop}
 use native.Mathlib.Omega.{arith}
-use mathlib.Core.Path.{◌≡◌, refl, sym, ◌∙◌}
-use borrow.Author.Tests.{not-true, not-false}
-use borrow.Author.Rules.{rules}
+use mathlib.Core.Path.{sym, ◌∙◌}
 use Rattle.characters.proofs.ordinary_run.Goals as goal
 
 pub all_ordinary-requires : goal.all_ordinary-requires

@@ -1,13 +1,7 @@
 use Rattle.characters.proofs.Runs.{every_none, every_next}
-use Rattle.rules.specs.Steps.{printable}
-use mathlib.Core.Bool.{true}
-use Rattle.laws.specs.Runs.{every}
-use lib.ListN.{length, take, drop}
-use Prim.Native.Nat.{◌+◌, ◌-◌, ◌≤◌}
+use lib.ListN.{drop}
 use native.Mathlib.Omega.{arith}
-use mathlib.Core.Path.{◌≡◌, refl, sym, ◌∙◌}
-use borrow.Author.Tests.{not-true, not-false}
-use borrow.Author.Rules.{rules}
+use mathlib.Core.Path.{sym, ◌∙◌}
 use Rattle.characters.proofs.printable_run.Goals as goal
 
 pub all_printable-requires : goal.all_printable-requires

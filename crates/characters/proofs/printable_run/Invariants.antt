@@ -1,13 +1,9 @@
-use Rattle.characters.proofs.Runs.{every_none, every_next}
 use Rattle.rules.specs.Steps.{printable}
 use mathlib.Core.Bool.{true}
 use Rattle.laws.specs.Runs.{every}
-use lib.ListN.{length, take, drop}
-use Prim.Native.Nat.{◌+◌, ◌-◌, ◌≤◌}
-use native.Mathlib.Omega.{arith}
-use mathlib.Core.Path.{◌≡◌, refl, sym, ◌∙◌}
-use borrow.Author.Tests.{not-true, not-false}
-use borrow.Author.Rules.{rules}
+use lib.ListN.{take, drop}
+use Prim.Native.Nat.{◌-◌, ◌≤◌}
+use mathlib.Core.Path.{◌≡◌}
 use Rattle.characters.proofs.printable_run.Given as goal
 
 abbrev pub invariant-loop-i : goal.invariant-loop-i

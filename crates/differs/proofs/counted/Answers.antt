@@ -2,7 +2,6 @@ use Rattle.differs.proofs.Compares.{both_fit, count_refused, count_done, answer_
 use Rattle.rules.specs.Book.{state}
 use mathlib.Core.List.{[], ◌∷◌}
 use mathlib.Core.Path.{sym, ◌∙◌}
-use borrow.Author.Rules.{rules}
 use Rattle.differs.proofs.counted.Goals as goal
 
 pub returns-then-number-ne0 : goal.returns-then-number-ne0

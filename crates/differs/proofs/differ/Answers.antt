@@ -1,6 +1,5 @@
 use Rattle.differs.proofs.Compares.{differ_call}
 use Rattle.rules.specs.Calls.{book}
-use borrow.Author.Rules.{rules}
 use Rattle.differs.proofs.differ.Goals as goal
 
 pub returns : goal.returns

@@ -1,6 +1,5 @@
 use Rattle.differs.proofs.Compares.{count_call}
 use Rattle.rules.specs.Calls.{book}
-use borrow.Author.Rules.{rules}
 use Rattle.differs.proofs.difference_count.Goals as goal
 
 pub returns : goal.returns

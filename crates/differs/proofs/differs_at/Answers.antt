@@ -1,5 +1,4 @@
 use Rattle.differences.proofs.Runs.{past_first, past_second, in_both}
-use borrow.Author.Rules.{rules}
 use Rattle.differs.proofs.differs_at.Goals as goal
 
 pub returns-then-xs-place : goal.returns-then-xs-place

@@ -2,11 +2,9 @@ use Rattle.differs.proofs.Lines.{none_shown, line_shown}
 use Rattle.views.proofs.Shown.{shown_small}
 use Rattle.laws.proofs.Entry.{fits_facts}
 use Rattle.rules.specs.Book.{state}
-use borrow.Author.Tests.{not-true, not-false}
 use lib.ListN.{length}
 use native.Mathlib.Omega.{arith}
 use mathlib.Core.Path.{sym, ◌∙◌}
-use borrow.Author.Rules.{rules}
 use Rattle.differs.proofs.line_span.Goals as goal
 
 pub returns-then-not-is_shown : goal.returns-then-not-is_shown

@@ -1,6 +1,5 @@
 use Rattle.differs.proofs.Compares.{list_refused, counted_fit, list_short, list_done, answer_as}
 use Rattle.rules.specs.Book.{state}
-use borrow.Author.Rules.{rules}
 use Rattle.differs.proofs.list_spans.Goals as goal
 
 pub returns-then-found-ne0 : goal.returns-then-found-ne0

@@ -1,5 +1,4 @@
 use Rattle.differs.proofs.Walks.{note_full, note_room}
-use borrow.Author.Rules.{rules}
 use Rattle.differs.proofs.note.Goals as goal
 
 pub returns-then-list-at : goal.returns-then-list-at

@@ -1,12 +1,9 @@
 use Rattle.differs.proofs.Lines.{spans_of_page, most_pages, most_pages_lem, book_noted}
-use Rattle.differs.proofs.Walks.{Along, along_first, along_next}
+use Rattle.differs.proofs.Walks.{along_first, along_next}
 use Rattle.differs.specs.Tally.{tally}
 use Rattle.rules.specs.Book.{state}
-use lib.ListN.{length}
 use native.Mathlib.Omega.{arith}
-use Prim.Native.Nat.{◌+◌, ◌-◌}
-use mathlib.Core.Path.{◌≡◌, refl, ◌∙◌}
-use borrow.Author.Rules.{rules}
+use mathlib.Core.Path.{refl, ◌∙◌}
 use Rattle.differs.proofs.note_book.Goals as goal
 
 pub loop-page-init : goal.loop-page-init

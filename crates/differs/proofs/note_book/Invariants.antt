@@ -1,12 +1,10 @@
-use Rattle.differs.proofs.Lines.{spans_of_page, most_pages, most_pages_lem, book_noted}
-use Rattle.differs.proofs.Walks.{Along, along_first, along_next}
+use Rattle.differs.proofs.Lines.{spans_of_page, most_pages}
+use Rattle.differs.proofs.Walks.{Along}
 use Rattle.differs.specs.Tally.{tally}
 use Rattle.rules.specs.Book.{state}
 use lib.ListN.{length}
-use native.Mathlib.Omega.{arith}
 use Prim.Native.Nat.{◌+◌, ◌-◌}
-use mathlib.Core.Path.{◌≡◌, refl, ◌∙◌}
-use borrow.Author.Rules.{rules}
+use mathlib.Core.Path.{◌≡◌}
 use Rattle.differs.proofs.note_book.Given as goal
 
 abbrev pub invariant-loop-page : goal.invariant-loop-page

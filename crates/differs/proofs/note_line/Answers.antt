@@ -2,7 +2,6 @@ use Rattle.differs.proofs.Lines.{line_hidden, line_showing, line_in, line_short,
 use Rattle.differs.specs.Tally.{tally}
 use Rattle.rules.specs.Book.{state}
 use native.Mathlib.Omega.{arith}
-use borrow.Author.Rules.{rules}
 use Rattle.differs.proofs.note_line.Goals as goal
 
 pub returns-then-there-ne0 : goal.returns-then-there-ne0

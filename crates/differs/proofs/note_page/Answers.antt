@@ -1,12 +1,9 @@
 use Rattle.differs.proofs.Lines.{spans_of_line, most_lines, most_lines_lem, page_noted}
-use Rattle.differs.proofs.Walks.{Along, along_first, along_next}
+use Rattle.differs.proofs.Walks.{along_first, along_next}
 use Rattle.differs.specs.Tally.{tally}
 use Rattle.rules.specs.Book.{state}
-use lib.ListN.{length}
 use native.Mathlib.Omega.{arith}
-use Prim.Native.Nat.{◌+◌, ◌-◌}
-use mathlib.Core.Path.{◌≡◌, refl, ◌∙◌}
-use borrow.Author.Rules.{rules}
+use mathlib.Core.Path.{refl, ◌∙◌}
 use Rattle.differs.proofs.note_page.Goals as goal
 
 pub loop-line-init : goal.loop-line-init

@@ -1,11 +1,10 @@
 use Rattle.differs.proofs.Walks.{first_place, last_place}
-use borrow.Author.Rules.{rules}
-use Rattle.differs.specs.Tally.{tally, walked}
-use Rattle.differences.specs.Spans.{place_differs, runs}
+use Rattle.differs.specs.Tally.{tally}
+use Rattle.differences.specs.Spans.{place_differs}
 use lib.ListN.{length}
 use native.Mathlib.Omega.{arith}
-use Prim.Native.Nat.{◌+◌, ◌-◌, ◌≤◌, max}
-use mathlib.Core.Path.{◌≡◌, refl, ◌∙◌}
+use Prim.Native.Nat.{max}
+use mathlib.Core.Path.{refl, ◌∙◌}
 use Rattle.differs.proofs.note_runs.Goals as goal
 
 pub loop-place-init : goal.loop-place-init

@@ -1,11 +1,8 @@
-use Rattle.differs.proofs.Walks.{first_place, last_place}
-use borrow.Author.Rules.{rules}
 use Rattle.differs.specs.Tally.{tally, walked}
 use Rattle.differences.specs.Spans.{place_differs, runs}
 use lib.ListN.{length}
-use native.Mathlib.Omega.{arith}
 use Prim.Native.Nat.{◌+◌, ◌-◌, ◌≤◌, max}
-use mathlib.Core.Path.{◌≡◌, refl, ◌∙◌}
+use mathlib.Core.Path.{◌≡◌}
 use Rattle.differs.proofs.note_runs.Given as goal
 
 abbrev pub invariant-loop-place : goal.invariant-loop-place

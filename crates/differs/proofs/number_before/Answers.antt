@@ -1,6 +1,5 @@
 use Rattle.differs.proofs.Compares.{first_closed, second_closed, first_fits, first_breaks}
 use Rattle.rules.specs.Book.{state}
-use borrow.Author.Rules.{rules}
 use Rattle.differs.proofs.number_before.Goals as goal
 
 pub returns-then-here-eq1 : goal.returns-then-here-eq1

@@ -1,11 +1,9 @@
 use Rattle.differs.proofs.Walks.{inside_more}
 use Rattle.differences.proofs.Runs.{differs_in}
 use Rattle.differences.specs.Spans.{place_differs}
-use lib.ListN.{length}
-use Prim.Native.Nat.{ℕ, ◌+◌, ◌-◌, ◌≤◌, max}
+use Prim.Native.Nat.{◌+◌}
 use native.Mathlib.Omega.{arith}
 use mathlib.Core.Path.{◌≡◌, sym, ap, ◌∙◌}
-use mathlib.Core.Bool.{true}
 use Rattle.differs.proofs.run_last.Goals as goal
 
 pub loop-last-init : goal.loop-last-init

@@ -1,10 +1,7 @@
-use Rattle.differs.proofs.Walks.{inside_more}
-use Rattle.differences.proofs.Runs.{differs_in}
 use Rattle.differences.specs.Spans.{place_differs}
 use lib.ListN.{length}
-use Prim.Native.Nat.{ℕ, ◌+◌, ◌-◌, ◌≤◌, max}
-use native.Mathlib.Omega.{arith}
-use mathlib.Core.Path.{◌≡◌, sym, ap, ◌∙◌}
+use Prim.Native.Nat.{ℕ, ◌-◌, ◌≤◌, max}
+use mathlib.Core.Path.{◌≡◌}
 use mathlib.Core.Bool.{true}
 use Rattle.differs.proofs.run_last.Given as goal
 

@@ -1,5 +1,4 @@
 use Rattle.differs.proofs.Lines.{part_as}
-use borrow.Author.Rules.{rules}
 use Rattle.differs.proofs.shown_part.Goals as goal
 
 pub returns : goal.returns

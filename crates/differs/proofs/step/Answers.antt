@@ -1,12 +1,10 @@
 use Rattle.differs.proofs.Walks.{step_agree, step_run, stretch_in}
 use Rattle.differs.specs.Tally.{tally}
 use Rattle.differences.specs.Spans.{place_differs}
-use borrow.Author.Tests.{not-true, not-false}
 use lib.ListN.{length}
 use native.Mathlib.Omega.{arith}
 use Prim.Native.Nat.{max}
 use mathlib.Core.Path.{sym, ◌∙◌}
-use borrow.Author.Rules.{rules}
 use Rattle.differs.proofs.step.Goals as goal
 
 pub returns-then-not-differs_at : goal.returns-then-not-differs_at

@@ -1,13 +1,8 @@
-use mathlib.Core.Path.{ap, ◌∙◌}
-use Prim.Native.Nat.{ℕ}
-use borrow.Author.Rules.{rules}
 use mathlib.Core.Path.{◌≡◌}
-use native.Mathlib.Omega.{arith}
 use Prim.Native.Nat.{◌≤◌, ◌-◌}
 use lib.Dec.{leb}
 use lib.ListN.{length, take}
 use Rattle.rules.specs.Book.{all_up_to}
-use Rattle.entry.proofs.Tests.{all_none, all_next, all_last}
 use Rattle.entry.proofs.all_up_to.Given as goal
 
 abbrev pub invariant-loop-i : goal.invariant-loop-i

@@ -1,9 +1,7 @@
 use Rattle.entry.proofs.Tests.{shape_legal, book_shape_bad, book_lengths_bad, book_end}
 use Rattle.rules.specs.Book.{state}
 use lib.ListN.{length}
-use borrow.Author.Tests.{not-true, not-false}
 use mathlib.Core.Path.{sym, ◌∙◌}
-use borrow.Author.Rules.{rules}
 use Rattle.entry.proofs.book_fits.Goals as goal
 
 pub returns-then-not-shape_fits : goal.returns-then-not-shape_fits

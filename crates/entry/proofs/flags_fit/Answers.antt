@@ -1,4 +1,3 @@
-use mathlib.Core.Path.{refl, sym}
 use Rattle.entry.proofs.Tests.{flags_both, flags_reading, flags_writing, flags_none}
 use Rattle.entry.proofs.flags_fit.Goals as goal
 

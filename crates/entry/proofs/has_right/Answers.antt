@@ -1,5 +1,4 @@
 use borrow.Author.Rules.{rules}
-use Prim.Native.Nat.{◌-◌}
 use Rattle.rules.specs.Book.{some_right}
 use Rattle.entry.proofs.has_right.Goals as goal
 

@@ -1,6 +1,4 @@
-use borrow.Author.Rules.{rules}
 use native.Mathlib.Omega.{arith}
-use mathlib.Core.Logic.{⊎_elim}
 use Rattle.rules.specs.Book.{lengths}
 use Rattle.entry.proofs.Tests.{within_places, reached_low, reached_same, reached_line, reached_page, earlier_line, earlier_page, reached_other}
 use Rattle.entry.proofs.is_reached.Goals as goal

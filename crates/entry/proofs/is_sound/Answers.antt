@@ -1,9 +1,6 @@
 use Rattle.entry.proofs.Tests.{all_three}
-use borrow.Author.Tests.{not-true, not-false}
 use lib.Dec.{T}
 use mathlib.Core.Path.{sym, subst, ◌∙◌}
-use Rattle.rules.specs.Book.{legal, sizes_fit}
-use borrow.Author.Rules.{rules}
 use Rattle.entry.proofs.is_sound.Goals as goal
 
 pub returns-then-not-is_legal : goal.returns-then-not-is_legal

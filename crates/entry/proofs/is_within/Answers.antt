@@ -1,8 +1,5 @@
 use Rattle.rules.specs.Book.{lengths}
-use native.Mathlib.Omega.{arith}
-use mathlib.Core.Path.{◌≡◌, refl, sym, ap, ◌∙◌}
 use Rattle.entry.proofs.Tests.{within_places, below_places}
-use borrow.Author.Rules.{rules}
 use Rattle.entry.proofs.is_within.Goals as goal
 
 pub returns-then-to-lt1 : goal.returns-then-to-lt1

@@ -1,8 +1,6 @@
 use Rattle.entry.proofs.Tests.{lengths_lines_bad, lengths_pages}
 use Rattle.rules.specs.Book.{lengths}
-use borrow.Author.Tests.{not-true, not-false}
 use mathlib.Core.Path.{sym, ◌∙◌}
-use borrow.Author.Rules.{rules}
 use Rattle.entry.proofs.lengths_fit.Goals as goal
 
 pub returns-then-not-all_up_to : goal.returns-then-not-all_up_to

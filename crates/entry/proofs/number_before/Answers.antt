@@ -1,4 +1,3 @@
-use borrow.Author.Rules.{rules}
 use lib.ListN.{length}
 use Rattle.rules.specs.Book.{state}
 use Rattle.entry.proofs.Tests.{number_lent, both_halves}

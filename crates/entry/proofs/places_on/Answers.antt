@@ -1,8 +1,6 @@
-use borrow.Author.Rules.{rules}
 use native.Mathlib.Omega.{arith}
-use Prim.Native.Nat.{ℕ, ◌+◌, ◌*◌, ◌-◌, ◌≤◌, ◌<◌}
-use mathlib.Core.Path.{◌≡◌, sym, subst, ◌∙◌}
-use mathlib.Core.Logic.{⊎_elim}
+use Prim.Native.Nat.{ℕ, ◌+◌, ◌*◌, ◌-◌, ◌≤◌}
+use mathlib.Core.Path.{sym, subst}
 use Rattle.entry.proofs.Tests.{Sized, lines_small, not_none, index_there, on_no_page, on_no_line, on_far, on_line, size_there, size_end, on_next, on_past, places_high}
 use Rattle.entry.proofs.places_on.Goals as goal
 use Rattle.entry.proofs.places_on.Goals.{then-page-pages+else-line-size, else-page-pages+else-page-pages-2}

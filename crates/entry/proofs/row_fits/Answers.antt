@@ -1,12 +1,6 @@
-use borrow.Author.Rules.{rules}
-use mathlib.Core.Path.{◌≡◌, refl, sym, ◌∙◌}
+use mathlib.Core.Path.{refl, sym, ◌∙◌}
 use native.Mathlib.Omega.{arith}
-use borrow.Author.Tests.{not-true, not-false}
 use Rattle.entry.proofs.Tests.{row_long, row_next, row_bad, row_good}
-use lib.ListN.{length}
-use Prim.Native.Nat.{◌-◌}
-use lib.ListN.{drop}
-use Rattle.rules.specs.Book.{all_words_fit}
 use Rattle.entry.proofs.row_fits.Goals as goal
 
 pub returns-then-row-gt64 : goal.returns-then-row-gt64

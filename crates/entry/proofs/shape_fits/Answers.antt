@@ -1,8 +1,5 @@
-use borrow.Author.Rules.{rules}
 use mathlib.Core.Path.{sym, ◌∙◌}
-use borrow.Author.Tests.{not-true, not-false}
 use Rattle.entry.proofs.Tests.{all_three}
-use Prim.Native.Nat.{◌-◌}
 use lib.Dec.{T}
 use mathlib.Core.Path.{subst}
 use Rattle.rules.specs.Book.{shape_fits, sizes_fit}

@@ -1,7 +1,6 @@
 use native.Mathlib.Omega.{arith}
 use borrow.Author.Tests.{eq-eqb, ne_eqb}
 use Rattle.entry.proofs.Tests.{legal_lines, legal-characters}
-use Prim.Native.Nat.{◌-◌}
 use Rattle.entry.proofs.sizes_fit.Goals as goal
 
 pub overflow_mul-count : goal.overflow_mul-count

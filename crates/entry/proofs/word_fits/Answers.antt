@@ -1,7 +1,5 @@
-use borrow.Author.Rules.{rules}
 use borrow.Author.Tests.{le-leb, lt-leb, eq-eqb, ne_eqb}
 use Rattle.entry.proofs.Tests.{word_kind, word_set, word_page, word_line, word_none, word_other, word_suggests}
-use Prim.Native.Nat.{◌-◌}
 use Rattle.entry.proofs.word_fits.Goals as goal
 
 pub returns-then-kind-gt8 : goal.returns-then-kind-gt8

@@ -1,19 +1,9 @@
 -- The proof of the cycle of calls. Every measure is that of the definitions: answers left, then places left, then the action.
-use borrow.Author.Rules.{rules}
-use mathlib.Core.Bool.{true, false}
-use Rattle.stores.proofs.Smalls.{end_small}
-use Rattle.laws.proofs.Cases.{held_ends, held_stays, held_event_ends, held_again, good_file_stays, good_file_stops, good_file_refuses, good_file_ends, good_file_again, law_good_page, good_page_file, good_page_from, good_page_on, page_end_default, page_end_follows, newline_page, newline_ends, newline_done, newline_from, newline_moves, newline_on, newline_again, newline_closes, newpage_file, newpage_ends, newpage_done, newpage_from, newpage_moves, newpage_on, newpage_again, newpage_closes, follow_perform, follow_jumps, follow_ends, follow_done, perform_lower, perform_newline_reading, perform_newline_writing, perform_newline_moodless, perform_newpage_reading, perform_newpage_writing, perform_newpage_moodless, perform_set, perform_backspace, perform_reset, perform_nothing, set_no_right, set-outside, set_goes, set_from, set_refused, set_jumps, set_performs}
-use Rattle.laws.proofs.Ways.{below, reached, halted, hands_on, hands_done, from_lower, from_default, from_answer, followed_on, Looped, looped_start, looped_on, looped_again, looped_less}
-use Rattle.laws.proofs.Progress.{events_small, from_start}
-use Rattle.laws.proofs.Validity.{near_at}
+use Rattle.laws.proofs.Ways.{Looped}
 use Rattle.rules.specs.Steps.{Action, measure}
 use Rattle.rules.specs.Book.{state, mending_of}
 use lib.ListN.{length}
-use mathlib.Core.Path.{◌≡◌, refl, sym, ap, subst, ◌∙◌}
-use native.Mathlib.Omega.{arith}
-use borrow.Author.Tests.{not-true, not-false}
-use Prim.Native.Nat.{◌≤◌, ◌+◌}
-use Prim.Native.Nat.{ℕ, ◌<◌}
+use mathlib.Core.Path.{◌≡◌}
 use Rattle.events.proofs.+event.Given as goal
 
 abbrev pub decreases-follow : goal.decreases-follow

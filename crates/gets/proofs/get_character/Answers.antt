@@ -1,7 +1,5 @@
-use borrow.Author.Rules.{rules}
 use mathlib.Core.Path.{sym, ◌∙◌}
 use mathlib.Core.Bool.{true, false}
-use borrow.Author.Tests.{not-true, not-false}
 use Rattle.rules.specs.Steps.{Action}
 use Rattle.laws.proofs.Ways.{reached, done_of}
 use Rattle.laws.proofs.Progress.{from_gain}

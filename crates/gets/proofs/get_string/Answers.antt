@@ -1,7 +1,5 @@
-use borrow.Author.Rules.{rules}
 use mathlib.Core.Path.{sym, ◌∙◌}
 use mathlib.Core.Bool.{true}
-use borrow.Author.Tests.{not-true, not-false}
 use Rattle.rules.specs.Steps.{Action}
 use Rattle.begins.proofs.Begins.{begun_ready, begun_row}
 use Rattle.gets.proofs.Gets.{string_refused, string_got}

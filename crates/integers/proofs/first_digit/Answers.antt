@@ -1,7 +1,6 @@
-use Rattle.rules.specs.Steps.{Action, measure}
+use Rattle.rules.specs.Steps.{Action}
 use Rattle.rules.specs.Book.{state}
-use borrow.Author.Tests.{not-true, not-false}
-use mathlib.Core.Path.{◌≡◌, refl, sym, ap, subst, ◌∙◌}
+use mathlib.Core.Path.{sym, ap, subst, ◌∙◌}
 use native.Mathlib.Omega.{arith}
 use mathlib.Core.Bool.{true}
 use Rattle.integers.proofs.Sums.{event_from, gives_refused}
@@ -10,14 +9,12 @@ use Rattle.stores.proofs.Smalls.{here_small}
 use Rattle.rules.specs.declared.Outcome.{Outcome}
 use Rattle.rules.specs.declared.Run.{Run}
 use Rattle.rules.specs.Ready.{Ready}
-use Rattle.rules.specs.Steps.{character_event, execute}
-use Rattle.rules.specs.Step.{Out, done, outcome_giving, done_by}
+use Rattle.rules.specs.Step.{outcome_giving, done_by}
 use Rattle.rules.specs.Book.{on_run}
 use Rattle.laws.proofs.Ways.{gives, gives_none, hands, hands_none}
 use Rattle.laws.proofs.Validity.{near_at}
 use Rattle.laws.proofs.Gets.{passed_ready}
 use Rattle.laws.proofs.Numbers.{first_there, first_ends, first_suggested, first_refused}
-use borrow.Author.Rules.{rules}
 use Rattle.integers.proofs.first_digit.Goals as goal
 
 pub character_here-b-requires : goal.character_here-b-requires

@@ -1,5 +1,4 @@
 use mathlib.Core.Path.{ap}
-use borrow.Author.Rules.{rules}
 use Rattle.rules.specs.declared.Status.{Status}
 use Rattle.rules.specs.declared.Given.TheVariants.{Nothing}
 use Rattle.integers.specs.declared.Found.{Found}

@@ -1,17 +1,13 @@
-use Rattle.rules.specs.Steps.{Action, measure}
+use Rattle.rules.specs.Steps.{Action}
 use Rattle.rules.specs.Book.{state}
-use mathlib.Core.Path.{◌≡◌, refl, sym, ap, subst, ◌∙◌}
+use mathlib.Core.Path.{sym, ◌∙◌}
 use native.Mathlib.Omega.{arith}
 use mathlib.Core.Bool.{true}
 use Rattle.integers.proofs.Sums.{nothing_out, integer_out, nothing_refused}
-use Rattle.rules.specs.declared.Outcome.{Outcome}
-use Rattle.rules.specs.Step.{outcome_giving}
-use Rattle.rules.specs.Calls.{nothing}
 use Rattle.rules.specs.Book.{mending_of}
-use Rattle.laws.proofs.Ways.{from_answer, hands_none}
+use Rattle.laws.proofs.Ways.{from_answer}
 use Rattle.laws.proofs.Progress.{events_small, from_start}
 use Rattle.laws.proofs.Numbers.{given_refused, given_none}
-use borrow.Author.Rules.{rules}
 use Rattle.integers.proofs.integer_given.Goals as goal
 
 pub returns-then-value-le2147483647 : goal.returns-then-value-le2147483647

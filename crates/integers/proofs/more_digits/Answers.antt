@@ -1,14 +1,9 @@
-use borrow.Author.Rules.{rules}
-use Rattle.laws.proofs.Ways.{reached, halted, hands_on, hands_done, Looped, looped_start, looped_on, looped_again, looped_less, from_lower, done_of}
-use Rattle.rules.specs.Steps.{Action, measure}
-use Rattle.rules.specs.Book.{state}
-use borrow.Author.Tests.{not-true, not-false}
-use lib.ListN.{length}
-use mathlib.Core.Path.{◌≡◌, refl, sym, ap, subst, ◌∙◌}
+use Rattle.laws.proofs.Ways.{reached}
+use mathlib.Core.Path.{refl, sym, ◌∙◌}
 use native.Mathlib.Omega.{arith}
 use Rattle.laws.proofs.Validity.{near_at}
 use Rattle.stores.proofs.Smalls.{here_small}
-use Rattle.integers.proofs.Sums.{Summing, summing_start, summing_small, summing_line, summing_halts, summing_stops, summing_valid, summing_stays, summing_less, summing_again}
+use Rattle.integers.proofs.Sums.{summing_start, summing_small, summing_line, summing_halts, summing_stops, summing_valid, summing_stays, summing_less, summing_again}
 use Rattle.integers.proofs.more_digits.Goals as goal
 
 pub loop-at-init : goal.loop-at-init

@@ -1,7 +1,6 @@
 use native.Mathlib.Omega.{arith}
 use Rattle.integers.proofs.Sums.{digit_low, above_stays, below_next, above_next}
 use Prim.Native.Nat.{◌+◌, ◌*◌, ◌-◌}
-use borrow.Author.Rules.{rules}
 use Rattle.integers.proofs.next_value.Goals as goal
 
 pub returns-then-value-gt2147483647 : goal.returns-then-value-gt2147483647

@@ -3,15 +3,11 @@ use Rattle.lines.proofs.Good.{good_facts}
 use Rattle.laws.proofs.Numbers.{blanks_line, blanks_ends, blanks_from, blanks_stay, blanks-again, blanks_on}
 use Rattle.laws.proofs.Lines.{good_line_at_once}
 use Rattle.laws.proofs.Validity.{near_at}
-use Rattle.laws.proofs.Ways.{reached, halted, hands_on, Looped, looped_start, looped_again, looped_less}
-use Rattle.rules.specs.Steps.{Action, measure}
+use Rattle.laws.proofs.Ways.{reached, halted, hands_on, looped_start, looped_again, looped_less}
 use Rattle.rules.specs.Book.{state}
-use lib.ListN.{length}
 use native.Mathlib.Omega.{arith}
 use mathlib.Core.Bool.{true, false}
-use mathlib.Core.Path.{◌≡◌, refl, sym, ◌∙◌}
-use borrow.Author.Tests.{not-true, not-false}
-use borrow.Author.Rules.{rules}
+use mathlib.Core.Path.{refl, sym, ◌∙◌}
 use Rattle.integers.proofs.pass_blanks.Goals as goal
 
 pub loop-text-init : goal.loop-text-init

@@ -4,10 +4,8 @@ use Rattle.integers.proofs.Puts.{put_halts, put_here, put_after, room_valid, bla
 use Rattle.integers.proofs.Sums.{text_of}
 use native.Mathlib.Omega.{arith}
 use mathlib.Core.Path.{refl, sym, ◌∙◌}
-use borrow.Author.Tests.{not-true, not-false}
 use Rattle.rules.specs.Book.{state}
 use Rattle.laws.proofs.Ways.{reached, halted, hands_on}
-use borrow.Author.Rules.{rules}
 use Rattle.integers.proofs.put_integer.Goals as goal
 
 pub returns-then-not-goes_on : goal.returns-then-not-goes_on

@@ -1,7 +1,6 @@
 use Rattle.whole.proofs.Signed.{read_is, read_absolute}
 use Rattle.integers.proofs.Sums.{text_of}
 use native.Mathlib.Omega.{arith}
-use borrow.Author.Rules.{rules}
 use Rattle.integers.proofs.put_text.Goals as goal
 
 pub put_whole-requires : goal.put_whole-requires

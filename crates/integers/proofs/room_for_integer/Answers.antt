@@ -1,10 +1,6 @@
-use borrow.Author.Rules.{rules}
-use Rattle.laws.proofs.Ways.{reached, halted, hands_on, hands_done, Looped, looped_start, looped_on, looped_again, looped_less, from_lower, done_of}
-use Rattle.rules.specs.Steps.{Action, measure}
-use Rattle.rules.specs.Book.{state}
-use borrow.Author.Tests.{not-true, not-false}
-use lib.ListN.{length}
-use mathlib.Core.Path.{◌≡◌, refl, sym, ap, subst, ◌∙◌}
+use Rattle.laws.proofs.Ways.{reached, halted, hands_on, looped_start, looped_on, looped_again, looped_less, from_lower}
+use Rattle.rules.specs.Steps.{Action}
+use mathlib.Core.Path.{refl, sym, ◌∙◌}
 use native.Mathlib.Omega.{arith}
 use mathlib.Core.Bool.{false}
 use Rattle.laws.proofs.Validity.{near_at}

@@ -1,22 +1,17 @@
-use Rattle.laws.proofs.Ways.{reached, halted, hands_on, hands_done, Looped, looped_start, looped_on, looped_again, looped_less, from_lower, done_of}
-use Rattle.rules.specs.Steps.{Action, measure}
+use Rattle.laws.proofs.Ways.{reached, halted, done_of}
+use Rattle.rules.specs.Steps.{Action}
 use Rattle.rules.specs.Book.{state}
-use borrow.Author.Tests.{not-true, not-false}
-use mathlib.Core.Path.{◌≡◌, refl, sym, ap, subst, ◌∙◌}
+use mathlib.Core.Path.{sym, ◌∙◌}
 use native.Mathlib.Omega.{arith}
 use mathlib.Core.Bool.{false}
 use Rattle.integers.proofs.Sums.{is_plus, is_minus, is_neither}
 use Rattle.stores.proofs.Smalls.{here_small}
-use Rattle.rules.specs.declared.Run.{Run}
-use Rattle.rules.specs.Ready.{Ready}
 use Rattle.rules.specs.Steps.{execute}
-use Rattle.rules.specs.Book.{on_run}
 use Rattle.laws.proofs.Ways.{hands_none, with_value}
 use Rattle.laws.proofs.Validity.{near_at}
 use Rattle.laws.proofs.Progress.{from_gain}
 use Rattle.laws.proofs.Gets.{passed_then}
 use Rattle.laws.proofs.Numbers.{sign_ends, sign_shown, sign_none}
-use borrow.Author.Rules.{rules}
 use Rattle.integers.proofs.sign_before.Goals as goal
 
 pub returns-then-not-goes_on : goal.returns-then-not-goes_on

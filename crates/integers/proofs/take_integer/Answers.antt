@@ -1,11 +1,9 @@
 use Rattle.rules.specs.Book.{state}
-use borrow.Author.Tests.{not-true, not-false}
-use mathlib.Core.Path.{◌≡◌, refl, sym, ap, subst, ◌∙◌}
-use Prim.Native.Nat.{ℕ, ◌-◌}
+use mathlib.Core.Path.{sym, ◌∙◌}
+use Prim.Native.Nat.{◌-◌}
 use Rattle.integers.proofs.Sums.{nothing_ends, digit_ready, digit_line, first_is, more_ready, given_ready, digit_low, digit_value}
 use Rattle.laws.proofs.Ways.{gives, gives_none}
 use Rattle.laws.proofs.Numbers.{integer_ends, first_halts, more_halts, integer_is}
-use borrow.Author.Rules.{rules}
 use Rattle.integers.proofs.take_integer.Goals as goal
 
 pub returns-then-not-goes_on : goal.returns-then-not-goes_on

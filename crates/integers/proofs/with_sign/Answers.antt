@@ -1,5 +1,4 @@
 use Rattle.integers.proofs.Sums.{minus_fits, with_minus, with_none}
-use borrow.Author.Rules.{rules}
 use Rattle.integers.proofs.with_sign.Goals as goal
 
 pub overflow_sub-result : goal.overflow_sub-result

@@ -1,4 +1,3 @@
-use borrow.Author.Rules.{rules}
 use mathlib.Core.Path.{◌∙◌}
 use Rattle.layout.proofs.Moods.{again_reading, again_writing, again_none}
 use Rattle.layout.proofs.mood_again.Goals as goal

@@ -1,7 +1,5 @@
-use borrow.Author.Rules.{rules}
 use mathlib.Core.Path.{sym, ◌∙◌}
 use mathlib.Core.Bool.{Bool}
-use borrow.Author.Tests.{not-true, not-false}
 use Rattle.rules.specs.Steps.{Action, newpage, execute}
 use Rattle.layout.proofs.Moods.{mood_ready, mood_refused, mood_worked, newpage_is}
 use Rattle.layout.proofs.newpage.Goals as goal

@@ -1,6 +1,4 @@
-use borrow.Author.Rules.{rules}
 use mathlib.Core.Path.{sym, ◌∙◌}
-use borrow.Author.Tests.{not-true, not-false}
 use Rattle.rules.specs.Steps.{Action}
 use Rattle.layout.proofs.Moods.{set_ready, set_refused, set_ends, set_went}
 use Rattle.layout.proofs.set.Goals as goal

@@ -1,7 +1,5 @@
-use borrow.Author.Rules.{rules}
 use mathlib.Core.Path.{sym, ◌∙◌}
 use mathlib.Core.Bool.{false}
-use borrow.Author.Tests.{not-true, not-false}
 use Rattle.rules.specs.Steps.{Action, space_step, execute}
 use Rattle.layout.proofs.Moods.{mood_ready, mood_refused, mood_worked, space_is}
 use Rattle.layout.proofs.space.Goals as goal

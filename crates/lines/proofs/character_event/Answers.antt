@@ -1,11 +1,10 @@
-use Rattle.laws.proofs.Ways.{reached, halted, hands_on, hands_done, from_lower, from_default, from_answer, Looped, looped_start, looped_on, looped_again, looped_less}
+use Rattle.laws.proofs.Ways.{from_answer}
 use Rattle.laws.proofs.Progress.{events_small, from_start}
-use Rattle.rules.specs.Steps.{Action, measure}
-use Rattle.rules.specs.Book.{state, mending_of}
+use Rattle.rules.specs.Steps.{Action}
+use Rattle.rules.specs.Book.{mending_of}
 use native.Mathlib.Omega.{arith}
 use Rattle.lines.proofs.Good.{word_suggests}
 use Rattle.laws.proofs.Lines.{event_refuses, event_follows}
-use borrow.Author.Rules.{rules}
 use Rattle.lines.proofs.character_event.Goals as goal
 
 pub signalled-next-requires : goal.signalled-next-requires

@@ -6,7 +6,6 @@ use Rattle.rules.specs.Book.{state}
 use Rattle.laws.proofs.Validity.{near_at}
 use Rattle.laws.proofs.Lines.{follow_newline}
 use Rattle.places.proofs.Goods.{page_good_facts}
-use borrow.Author.Rules.{rules}
 use Rattle.lines.proofs.follow.Goals as goal
 
 pub follow_writing-requires : goal.follow_writing-requires

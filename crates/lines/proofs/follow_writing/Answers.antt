@@ -1,8 +1,7 @@
-use borrow.Author.Tests.{not-true, not-false}
+use borrow.Author.Tests.{not-false}
 use mathlib.Core.Path.{sym, ◌∙◌}
 use Rattle.rules.specs.Book.{state}
 use Rattle.laws.proofs.Lines.{written_ready, written_ends, written_done}
-use borrow.Author.Rules.{rules}
 use Rattle.lines.proofs.follow_writing.Goals as goal
 
 pub newline-turned-requires : goal.newline-turned-requires

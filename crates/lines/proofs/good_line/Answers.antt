@@ -2,7 +2,6 @@ use Rattle.lines.proofs.Good.{good_facts}
 use Rattle.laws.proofs.Lines.{good_line_quick}
 use Rattle.stores.proofs.Smalls.{here_small}
 use mathlib.Core.Path.{sym, ◌∙◌}
-use borrow.Author.Rules.{rules}
 use Rattle.lines.proofs.good_line.Goals as goal
 
 pub line_good-requires : goal.line_good-requires

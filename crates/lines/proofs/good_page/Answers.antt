@@ -3,7 +3,6 @@ use Rattle.laws.proofs.Lines.{good_page_at_once}
 use Rattle.laws.proofs.Ways.{outcome_is}
 use Rattle.rules.specs.Book.{state}
 use mathlib.Core.Path.{sym, ◌∙◌}
-use borrow.Author.Rules.{rules}
 use Rattle.lines.proofs.good_page.Goals as goal
 
 pub returns-then-page_good : goal.returns-then-page_good

@@ -1,12 +1,10 @@
 use Rattle.laws.proofs.Lines.{line_end_stops, line_end_default, line_end_follows}
 use native.Mathlib.Omega.{arith}
-use Rattle.rules.specs.Book.{state, mending_of}
-use Rattle.rules.specs.Steps.{Action, measure}
+use Rattle.rules.specs.Book.{mending_of}
+use Rattle.rules.specs.Steps.{Action}
 use Rattle.laws.proofs.Progress.{events_small, from_start}
-use Rattle.laws.proofs.Ways.{reached, halted, hands_on, hands_done, from_lower, from_default, from_answer, Looped, looped_start, looped_on, looped_again, looped_less}
-use borrow.Author.Tests.{not-true, not-false}
+use Rattle.laws.proofs.Ways.{from_default, from_answer}
 use Rattle.laws.proofs.Lines.{line_end_splits, line_end_refuses}
-use borrow.Author.Rules.{rules}
 use Rattle.lines.proofs.line_end.Goals as goal
 
 pub signalled-next-requires : goal.signalled-next-requires

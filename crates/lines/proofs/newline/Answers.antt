@@ -5,8 +5,6 @@ use Rattle.stores.proofs.Smalls.{end_small}
 use Rattle.rules.specs.Book.{state}
 use mathlib.Core.Bool.{false}
 use mathlib.Core.Path.{sym, ◌∙◌}
-use borrow.Author.Tests.{not-true, not-false}
-use borrow.Author.Rules.{rules}
 use Rattle.lines.proofs.newline.Goals as goal
 
 pub end_line-closed-requires : goal.end_line-closed-requires

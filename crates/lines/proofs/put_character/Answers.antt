@@ -1,4 +1,3 @@
-use borrow.Author.Rules.{rules}
 use Rattle.lines.proofs.Good.{good_facts}
 use Rattle.laws.proofs.Lines.{good_line_at_once, put_line, put_stores}
 use Rattle.stores.proofs.Smalls.{here_small}

@@ -1,15 +1,8 @@
-use borrow.Author.Rules.{rules}
-use Rattle.laws.proofs.Cases.{held_ends, held_stays, held_event_ends, held_again}
-use Rattle.laws.proofs.Lines.{law_good_line, good_line_page, good_line_from, good_line_on}
-use Rattle.stores.proofs.Smalls.{here_small}
-use native.Mathlib.Omega.{arith}
-use mathlib.Core.Path.{◌≡◌, refl, sym, ap, ◌∙◌}
+use mathlib.Core.Path.{◌≡◌}
 use lib.ListN.{length}
-use borrow.Author.Tests.{not-true, not-false}
-use Rattle.rules.specs.Book.{state, mending_of}
+use Rattle.rules.specs.Book.{state}
 use Rattle.rules.specs.Steps.{Action, measure}
-use Rattle.laws.proofs.Ways.{reached, halted, hands_on, hands_done, from_lower, from_default, from_answer, Looped, looped_start, looped_on, looped_again, looped_less}
-use Rattle.laws.proofs.Lines.{page_as}
+use Rattle.laws.proofs.Ways.{Looped}
 use Rattle.lines.proofs.reach_line.Given as goal
 
 abbrev pub invariant-loop-good : goal.invariant-loop-good

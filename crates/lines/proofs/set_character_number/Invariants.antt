@@ -1,16 +1,8 @@
-use borrow.Author.Rules.{rules}
-use Rattle.laws.proofs.Ways.{reached, halted, hands_on, hands_done, from_lower, from_default, from_answer, Looped, looped_start, looped_on, looped_again, looped_less}
-use Rattle.laws.proofs.Progress.{events_small, from_start}
+use Rattle.laws.proofs.Ways.{Looped}
 use Rattle.rules.specs.Steps.{Action, measure}
-use Rattle.rules.specs.Book.{state, mending_of}
-use borrow.Author.Tests.{not-true, not-false}
+use Rattle.rules.specs.Book.{state}
 use lib.ListN.{length}
-use mathlib.Core.Path.{◌≡◌, refl, sym, ap, ◌∙◌}
-use native.Mathlib.Omega.{arith}
-use Rattle.lines.proofs.Good.{below_bounds, above_bounds, in_bounds_lem}
-use Rattle.stores.proofs.Smalls.{here_small}
-use Rattle.laws.proofs.Validity.{near_at}
-use Rattle.laws.proofs.Lines.{number_stays, number_outside, number_back, number_ends, number_again, number_on, number_space}
+use mathlib.Core.Path.{◌≡◌}
 use Rattle.lines.proofs.set_character_number.Given as goal
 
 abbrev pub invariant-loop-here : goal.invariant-loop-here

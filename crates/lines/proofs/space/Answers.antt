@@ -6,10 +6,8 @@ use mathlib.Core.Bool.{false}
 use Rattle.lines.proofs.Good.{or_true, or_false}
 use native.Mathlib.Omega.{arith}
 use mathlib.Core.Path.{sym, ◌∙◌}
-use borrow.Author.Tests.{not-true, not-false}
 use Rattle.rules.specs.Steps.{Action}
 use Rattle.laws.proofs.Ways.{reached, halted, hands_on}
-use borrow.Author.Rules.{rules}
 use Rattle.lines.proofs.space.Goals as goal
 
 pub returns-then-not-goes_on : goal.returns-then-not-goes_on

@@ -1,15 +1,11 @@
-use borrow.Author.Rules.{rules}
 use Rattle.laws.proofs.Ways.{reached, halted, hands_on}
-use Rattle.rules.specs.Steps.{Action, measure}
-use Rattle.rules.specs.Book.{state}
-use borrow.Author.Tests.{not-true, not-false}
-use lib.ListN.{length}
-use mathlib.Core.Path.{◌≡◌, refl, sym, ◌∙◌}
+use Rattle.rules.specs.Steps.{Action}
+use mathlib.Core.Path.{refl, sym, ◌∙◌}
 use native.Mathlib.Omega.{arith}
 use Rattle.stores.proofs.Smalls.{here_small}
 use Rattle.laws.proofs.Ways.{gives, gives_none, hands_on}
 use Rattle.laws.proofs.Progress.{ready_as}
-use Rattle.laws.proofs.Lines.{Trying, put_line, put_ends, put_done, put_from, put_stores, put_event_ends, trying_again, trying_less}
+use Rattle.laws.proofs.Lines.{put_line, put_ends, put_done, put_from, put_stores, put_event_ends, trying_again, trying_less}
 use Rattle.lines.proofs.try_character.Goals as goal
 
 pub loop-good-init : goal.loop-good-init

@@ -1,15 +1,8 @@
-use borrow.Author.Rules.{rules}
-use Rattle.laws.proofs.Ways.{reached, halted, hands_on}
 use Rattle.rules.specs.Steps.{Action, measure}
 use Rattle.rules.specs.Book.{state}
-use borrow.Author.Tests.{not-true, not-false}
 use lib.ListN.{length}
-use mathlib.Core.Path.{◌≡◌, refl, sym, ◌∙◌}
-use native.Mathlib.Omega.{arith}
-use Rattle.stores.proofs.Smalls.{here_small}
-use Rattle.laws.proofs.Ways.{gives, gives_none, hands_on}
-use Rattle.laws.proofs.Progress.{ready_as}
-use Rattle.laws.proofs.Lines.{Trying, put_line, put_ends, put_done, put_from, put_stores, put_event_ends, trying_again, trying_less}
+use mathlib.Core.Path.{◌≡◌}
+use Rattle.laws.proofs.Lines.{Trying}
 use Rattle.lines.proofs.try_character.Given as goal
 
 abbrev pub invariant-loop-good : goal.invariant-loop-good

@@ -3,7 +3,6 @@ use Rattle.rules.specs.Calls.{call, book, asking, puts_integer}
 use mir.Facts.{to_z-of_z}
 use mir.Syntax.{w32}
 use lib.IntN.{ℤ}
-use borrow.Author.Rules.{rules}
 use Rattle.numbers.proofs.put_integer.Goals as goal
 
 pub returns : goal.returns

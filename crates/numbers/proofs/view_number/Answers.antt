@@ -3,7 +3,6 @@ use Rattle.entry.specs.Before.{refused_reply}
 use Rattle.rules.specs.Book.{run_with}
 use Rattle.rules.specs.declared.Run.{Run}
 use mathlib.Core.Path.{sym, ap}
-use borrow.Author.Rules.{rules}
 use Rattle.numbers.proofs.view_number.Goals as goal
 
 pub returns : goal.returns

@@ -3,7 +3,6 @@ use Prim.Native.Nat.{ℕ, ◌*◌, ◌-◌, ◌+◌}
 use mathlib.Core.Path.{ap}
 use Rattle.rules.specs.Book.{character_index}
 use Rattle.places.proofs.Indices.{character_index_small}
-use borrow.Author.Rules.{rules}
 use Rattle.places.proofs.character_index.Goals as goal
 
 pub overflow_mul-result : goal.overflow_mul-result

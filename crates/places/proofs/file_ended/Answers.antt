@@ -1,7 +1,6 @@
 use mathlib.Core.Bool.{not}
 use mathlib.Core.Path.{ap}
 use Rattle.rules.specs.Step.{file_ended}
-use borrow.Author.Rules.{rules}
 use Rattle.places.proofs.file_ended.Goals as goal
 
 pub returns-then-reading : goal.returns-then-reading

@@ -5,7 +5,6 @@ use mathlib.Core.Path.{sym, ap, ◌∙◌}
 use lib.Dec.{leb}
 use Rattle.rules.specs.Book.{in_bounds, within}
 use Rattle.places.proofs.Indices.{in_bounds_last}
-use borrow.Author.Rules.{rules}
 use Rattle.places.proofs.in_bounds.Goals as goal
 
 pub returns-then-page-lt1 : goal.returns-then-page-lt1

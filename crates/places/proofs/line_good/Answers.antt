@@ -1,7 +1,6 @@
 use Rattle.places.proofs.Goods.{good_by_line}
 use Rattle.rules.specs.Book.{state}
-use mathlib.Core.Path.{sym, ap, ◌∙◌}
-use borrow.Author.Rules.{rules}
+use mathlib.Core.Path.{sym, ◌∙◌}
 use Rattle.places.proofs.line_good.Goals as goal
 
 pub returns-then-file_ended : goal.returns-then-file_ended

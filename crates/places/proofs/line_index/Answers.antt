@@ -2,7 +2,6 @@ use native.Mathlib.Omega.{arith}
 use mathlib.Core.Path.{refl}
 use Rattle.rules.specs.Book.{line_index}
 use Rattle.places.proofs.Indices.{lines_before}
-use borrow.Author.Rules.{rules}
 use Rattle.places.proofs.line_index.Goals as goal
 
 pub overflow_mul-result : goal.overflow_mul-result

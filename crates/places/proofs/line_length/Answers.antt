@@ -3,7 +3,6 @@ use borrow.Author.Tests.{le-leb, lt-leb}
 use mathlib.Core.Path.{sym}
 use lib.ListN.{get_or-eq_default}
 use Rattle.rules.specs.Book.{line_length}
-use borrow.Author.Rules.{rules}
 use Rattle.places.proofs.line_length.Goals as goal
 
 pub overflow_cast-result : goal.overflow_cast-result

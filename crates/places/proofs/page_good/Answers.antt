@@ -1,6 +1,5 @@
 use mathlib.Core.Bool.{not}
 use mathlib.Core.Path.{sym, ap, ◌∙◌}
-use borrow.Author.Rules.{rules}
 use Rattle.places.proofs.page_good.Goals as goal
 
 pub returns-then-file_ended : goal.returns-then-file_ended

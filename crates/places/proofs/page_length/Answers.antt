@@ -3,7 +3,6 @@ use lib.ListN.{get_or, get_or-eq_default}
 use Prim.Native.Nat.{ℕ}
 use mathlib.Core.Path.{ap, sym, ◌∙◌}
 use native.Mathlib.Omega.{arith}
-use borrow.Author.Rules.{rules}
 use Rattle.places.proofs.page_length.Goals as goal
 
 pub overflow_cast-result : goal.overflow_cast-result

@@ -1,7 +1,5 @@
-use borrow.Author.Rules.{rules}
 use mathlib.Core.Path.{sym, ap, ◌∙◌}
 use lib.ListN.{length}
-use borrow.Author.Tests.{not-true, not-false}
 use Rattle.rules.specs.Book.{state, book_fits}
 use Rattle.rules.specs.Calls.{opening}
 use Rattle.rules.specs.declared.Run.{Run}

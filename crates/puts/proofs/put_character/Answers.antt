@@ -1,6 +1,4 @@
-use borrow.Author.Rules.{rules}
 use mathlib.Core.Path.{sym, ◌∙◌}
-use borrow.Author.Tests.{not-true, not-false}
 use Rattle.rules.specs.Steps.{Action}
 use Rattle.begins.proofs.Begins.{begun_ready, begun_row}
 use mathlib.Core.Bool.{false}

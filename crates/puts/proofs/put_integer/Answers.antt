@@ -1,7 +1,5 @@
-use borrow.Author.Rules.{rules}
 use mathlib.Core.Path.{sym, ◌∙◌}
 use native.Mathlib.Omega.{arith}
-use borrow.Author.Tests.{not-true, not-false}
 use Rattle.rules.specs.Steps.{Action}
 use Rattle.whole.proofs.Signed.{is_lowest, not_lowest, read_is, read_absolute}
 use Rattle.begins.proofs.Begins.{begun_ready}

@@ -1,7 +1,6 @@
 use borrow.Author.Tests.{lt-ltb, le-ltb}
 use mathlib.Core.Path.{ap, ◌∙◌}
 use Rattle.rules.specs.Step.{done_by}
-use borrow.Author.Rules.{rules}
 use Rattle.running.proofs.backspace.Goals as goal
 
 pub returns-then-character-gt1 : goal.returns-then-character-gt1

@@ -1,4 +1,3 @@
-use mathlib.Core.Bool.{Bool}
 use mathlib.Core.Path.{sym, ap}
 use Rattle.rules.specs.Steps.{file_end_number}
 use Rattle.running.proofs.file_end_number.Goals as goal

@@ -1,5 +1,4 @@
 use Rattle.rules.specs.Book.{place_of}
-use borrow.Author.Rules.{rules}
 use Rattle.running.proofs.place_of.Goals as goal
 
 pub returns : goal.returns

@@ -3,7 +3,6 @@ use mathlib.Core.Bool.{not}
 use Rattle.rules.specs.Step.{done_by}
 use Rattle.rules.specs.Book.{with_file, file_moods}
 use Rattle.rules.specs.declared.Run.{Run}
-use borrow.Author.Rules.{rules}
 use Rattle.running.proofs.reset.Goals as goal
 
 pub returns-then-run : goal.returns-then-run

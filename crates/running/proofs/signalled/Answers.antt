@@ -1,5 +1,4 @@
 use borrow.Author.Tests.{lt-ltb, le-ltb}
-use borrow.Author.Rules.{rules}
 use Rattle.running.proofs.signalled.Goals as goal
 
 pub returns-then-taken-row : goal.returns-then-taken-row

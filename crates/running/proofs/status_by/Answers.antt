@@ -1,5 +1,4 @@
 use mathlib.Core.Path.{sym, ◌∙◌}
-use borrow.Author.Rules.{rules}
 use Rattle.running.proofs.status_by.Goals as goal
 
 pub returns-then-goes_on : goal.returns-then-goes_on

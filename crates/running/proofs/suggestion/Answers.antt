@@ -1,7 +1,6 @@
 use Rattle.running.proofs.Words.{suggested_seven, suggested-other}
-use mathlib.Core.Path.{sym, ap, ◌∙◌}
+use mathlib.Core.Path.{sym, ◌∙◌}
 use native.Mathlib.Omega.{arith}
-use borrow.Author.Rules.{rules}
 use Rattle.running.proofs.suggestion.Goals as goal
 
 pub overflow_cast-result : goal.overflow_cast-result

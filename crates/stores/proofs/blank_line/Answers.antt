@@ -1,5 +1,4 @@
 use Rattle.stores.proofs.Blanks.{blank_line_of}
-use borrow.Author.Rules.{rules}
 use Rattle.stores.proofs.blank_line.Goals as goal
 
 pub returns : goal.returns

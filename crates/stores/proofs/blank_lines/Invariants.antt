@@ -1,11 +1,8 @@
-use borrow.Author.Rules.{rules}
-use native.Mathlib.Omega.{arith}
-use mathlib.Core.Path.{◌≡◌, ap, ◌∙◌}
+use mathlib.Core.Path.{◌≡◌}
 use lib.ListN.{length}
-use Prim.Native.Nat.{◌≤◌, ◌+◌, ◌-◌}
+use Prim.Native.Nat.{◌≤◌, ◌+◌}
 use Rattle.rules.specs.Book.{lengths}
 use Rattle.rules.specs.Step.{blank_lines}
-use Rattle.stores.proofs.Blanks.{lines_step}
 use Rattle.stores.proofs.blank_lines.Given as goal
 
 abbrev pub invariant-loop-left : goal.invariant-loop-left

@@ -1,4 +1,3 @@
-use borrow.Author.Rules.{rules}
 use mathlib.Core.Path.{sym, ◌∙◌}
 use Rattle.stores.proofs.Blanks.{end_beyond, end_back, end_stays}
 use Rattle.stores.proofs.end_after.Goals as goal

@@ -1,5 +1,4 @@
 use Rattle.stores.proofs.Ends.{end_line_cut, end_line_fill}
-use borrow.Author.Rules.{rules}
 use Rattle.stores.proofs.end_line.Goals as goal
 
 pub returns-then-run : goal.returns-then-run

@@ -3,7 +3,6 @@ use borrow.Author.Tests.{eq-eqb, ne_eqb}
 use mathlib.Core.Path.{sym, ◌∙◌}
 use Prim.Native.Nat.{◌-◌}
 use Rattle.stores.proofs.Ends.{end_page_full, end_page_cut, end_page_fill, open_line_small}
-use borrow.Author.Rules.{rules}
 use Rattle.stores.proofs.end_page.Goals as goal
 
 pub returns-then-page_ended : goal.returns-then-page_ended

@@ -1,12 +1,7 @@
-use mathlib.Core.Path.{◌≡◌, refl, sym, ap, ◌∙◌}
-use borrow.Author.Rules.{rules}
-use mathlib.Core.Logic.{⊎_elim}
-use Prim.Native.Nat.{ℕ, ◌+◌, ◌-◌, ◌≤◌}
-use native.Mathlib.Omega.{arith}
-use mathlib.Core.List.{List}
+use mathlib.Core.Path.{◌≡◌}
+use Prim.Native.Nat.{◌+◌, ◌-◌, ◌≤◌}
 use lib.Seq.{sets}
-use lib.ListN.{length, replicate, length-set}
-use Rattle.stores.proofs.Fills.{fill_more, fill_all, fill_past}
+use lib.ListN.{length, replicate}
 use Rattle.stores.proofs.fill.Given as goal
 
 abbrev pub invariant-loop-i : goal.invariant-loop-i

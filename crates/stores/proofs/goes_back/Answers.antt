@@ -1,4 +1,3 @@
-use borrow.Author.Rules.{rules}
 use Rattle.stores.proofs.Blanks.{no_back, may_back}
 use Rattle.stores.proofs.goes_back.Goals as goal
 

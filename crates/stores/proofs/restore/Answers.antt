@@ -1,7 +1,6 @@
 use Rattle.stores.proofs.Blanks.{kept_whole, kept_beyond, kept_here, came_back_lem}
 use borrow.Author.Tests.{not-true, not-false}
 use mathlib.Core.Path.{sym, ◌∙◌}
-use borrow.Author.Rules.{rules}
 use Rattle.stores.proofs.restore.Goals as goal
 
 -- src/lib.rt:147:9

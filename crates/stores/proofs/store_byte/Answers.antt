@@ -1,6 +1,5 @@
 use lib.Seq.{set_out}
 use mathlib.Core.Path.{sym}
-use borrow.Author.Rules.{rules}
 use Rattle.stores.proofs.store_byte.Goals as goal
 
 pub returns-else-i-bytes : goal.returns-else-i-bytes

@@ -1,10 +1,8 @@
 use mathlib.Core.Path.{refl}
 use native.Mathlib.Nat.{add-zero, sub-zero}
 use native.Mathlib.Omega.{arith}
-use mathlib.Core.Path.{◌≡◌, sym, ◌∙◌}
-use lib.ListN.{length, length-set, take, drop}
-use Prim.Native.Nat.{◌≤◌, ◌+◌, ◌-◌}
-use lib.Seq.{sets}
+use mathlib.Core.Path.{sym, ◌∙◌}
+use lib.ListN.{length-set}
 use Rattle.stores.proofs.Blanks.{run_step, run_none}
 use Rattle.stores.proofs.store_run.Goals as goal
 

@@ -1,11 +1,7 @@
-use mathlib.Core.Path.{refl}
-use native.Mathlib.Nat.{add-zero, sub-zero}
-use native.Mathlib.Omega.{arith}
-use mathlib.Core.Path.{◌≡◌, sym, ◌∙◌}
-use lib.ListN.{length, length-set, take, drop}
+use mathlib.Core.Path.{◌≡◌}
+use lib.ListN.{length, take, drop}
 use Prim.Native.Nat.{◌≤◌, ◌+◌, ◌-◌}
 use lib.Seq.{sets}
-use Rattle.stores.proofs.Blanks.{run_step, run_none}
 use Rattle.stores.proofs.store_run.Given as goal
 
 abbrev pub invariant-loop-i : goal.invariant-loop-i

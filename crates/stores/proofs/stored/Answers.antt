@@ -1,5 +1,4 @@
 use Rattle.stores.proofs.Blanks.{stored_of}
-use borrow.Author.Rules.{rules}
 use Rattle.stores.proofs.stored.Goals as goal
 
 -- src/lib.rt:168:21

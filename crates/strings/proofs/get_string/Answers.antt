@@ -1,20 +1,12 @@
-use Rattle.strings.proofs.Parts.{some_of, run_short, run_there, got_none, got_one, got_more, Getting, getting_start, getting_turn, getting_stops, getting_more, getting_full}
-use borrow.Author.Rules.{rules}
-use borrow.Author.Tests.{not-true, not-false}
-use mathlib.Core.Path.{◌≡◌, refl, sym, ap, ◌∙◌}
+use Rattle.strings.proofs.Parts.{run_short, run_there, got_none, got_one, got_more, getting_start, getting_turn, getting_stops, getting_more, getting_full}
+use mathlib.Core.Path.{refl, sym, ◌∙◌}
 use native.Mathlib.Omega.{arith}
-use Prim.Native.Nat.{◌-◌, ◌≤◌, ◌+◌}
-use lib.ListN.{length, drop, length-set}
+use lib.ListN.{length-set}
 use Rattle.rules.specs.Book.{state}
 use Rattle.rules.specs.Step.{done_by}
-use Rattle.rules.specs.Steps.{put_character, pass_blanks, measure}
-use Rattle.rules.specs.Ready.{Ready}
-use Rattle.rules.specs.Calls.{put_characters}
+use Rattle.rules.specs.Steps.{pass_blanks}
 use Rattle.laws.proofs.Progress.{events_small}
-use Rattle.laws.proofs.Runs.{any_character}
-use Rattle.laws.proofs.Ways.{hands_on, outcome_is}
-use Rattle.laws.proofs.Puts.{left_none}
-use Rattle.stores.proofs.Smalls.{here_small, end_small}
+use Rattle.stores.proofs.Smalls.{here_small}
 use Rattle.strings.proofs.get_string.Goals as goal
 
 pub loop-i-init : goal.loop-i-init

@@ -1,20 +1,8 @@
-use Rattle.strings.proofs.Parts.{some_of, run_short, run_there, got_none, got_one, got_more, Getting, getting_start, getting_turn, getting_stops, getting_more, getting_full}
-use borrow.Author.Rules.{rules}
-use borrow.Author.Tests.{not-true, not-false}
-use mathlib.Core.Path.{◌≡◌, refl, sym, ap, ◌∙◌}
-use native.Mathlib.Omega.{arith}
-use Prim.Native.Nat.{◌-◌, ◌≤◌, ◌+◌}
-use lib.ListN.{length, drop, length-set}
+use Rattle.strings.proofs.Parts.{Getting}
+use mathlib.Core.Path.{◌≡◌}
+use lib.ListN.{length}
 use Rattle.rules.specs.Book.{state}
-use Rattle.rules.specs.Step.{done_by}
-use Rattle.rules.specs.Steps.{put_character, pass_blanks, measure}
-use Rattle.rules.specs.Ready.{Ready}
-use Rattle.rules.specs.Calls.{put_characters}
-use Rattle.laws.proofs.Progress.{events_small}
-use Rattle.laws.proofs.Runs.{any_character}
-use Rattle.laws.proofs.Ways.{hands_on, outcome_is}
-use Rattle.laws.proofs.Puts.{left_none}
-use Rattle.stores.proofs.Smalls.{here_small, end_small}
+use Rattle.rules.specs.Steps.{pass_blanks, measure}
 use Rattle.strings.proofs.get_string.Given as goal
 
 abbrev pub invariant-loop-i : goal.invariant-loop-i

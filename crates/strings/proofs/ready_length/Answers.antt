@@ -2,10 +2,9 @@ use Rattle.strings.proofs.Parts.{room_less}
 use Rattle.stores.proofs.Smalls.{here_small}
 use Rattle.laws.specs.Runs.{every, ordinary}
 use lib.ListN.{take, drop}
-use mathlib.Core.Path.{◌≡◌, sym, ap, ◌∙◌}
+use mathlib.Core.Path.{sym, ap, ◌∙◌}
 use Prim.Native.Nat.{ℕ}
 use native.Mathlib.Omega.{arith}
-use borrow.Author.Rules.{rules}
 use Rattle.strings.proofs.ready_length.Goals as goal
 
 pub character_index-at-requires : goal.character_index-at-requires

@@ -1,11 +1,9 @@
-use borrow.Author.Tests.{not-true, not-false}
 use lib.ListN.{length}
-use mathlib.Core.Path.{◌≡◌, refl, sym, ap, ◌∙◌}
+use mathlib.Core.Path.{sym, ap, ◌∙◌}
 use native.Mathlib.Omega.{arith}
 use Prim.Native.Nat.{ℕ, ◌-◌}
 use Rattle.stores.proofs.Smalls.{here_small}
 use Rattle.strings.proofs.Runs.{room_none, room_writing, room_elsewhere, room_seen}
-use borrow.Author.Rules.{rules}
 use Rattle.strings.proofs.room_here.Goals as goal
 
 pub line_good-requires : goal.line_good-requires

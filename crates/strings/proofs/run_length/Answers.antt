@@ -1,6 +1,5 @@
 use Rattle.strings.proofs.Parts.{room_less}
 use native.Mathlib.Omega.{arith}
-use borrow.Author.Rules.{rules}
 use Rattle.strings.proofs.run_length.Goals as goal
 
 pub returns : goal.returns

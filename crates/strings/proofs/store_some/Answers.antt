@@ -2,7 +2,6 @@ use Prim.Native.Nat.{ℕ}
 use mathlib.Core.Path.{ap, ◌∙◌}
 use lib.ListN.{take, drop}
 use lib.Seq.{sets}
-use borrow.Author.Rules.{rules}
 use Rattle.strings.proofs.store_some.Goals as goal
 
 pub returns : goal.returns

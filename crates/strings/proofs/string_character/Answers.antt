@@ -1,19 +1,14 @@
 use Rattle.rules.specs.Book.{state}
-use borrow.Author.Tests.{not-true, not-false}
-use mathlib.Core.Path.{◌≡◌, refl, sym, ap, ◌∙◌}
+use mathlib.Core.Path.{sym, ◌∙◌}
 use native.Mathlib.Omega.{arith}
 use mathlib.Core.Bool.{true}
-use Prim.Native.Nat.{ℕ}
 use Rattle.strings.proofs.Parts.{stops_at}
 use Rattle.lines.proofs.Good.{good_back}
 use Rattle.stores.proofs.Smalls.{here_small}
-use Rattle.rules.specs.declared.Outcome.{Outcome}
-use Rattle.rules.specs.Step.{outcome_giving}
 use Rattle.rules.specs.Steps.{Action}
-use Rattle.laws.proofs.Ways.{reached, halted, hands_on, hands_none, done_of}
+use Rattle.laws.proofs.Ways.{reached, halted, hands_none, done_of}
 use Rattle.laws.proofs.Progress.{ready_as, from_gain}
 use Rattle.laws.proofs.Gets.{string_ends, string_terminator, string_takes}
-use borrow.Author.Rules.{rules}
 use Rattle.strings.proofs.string_character.Goals as goal
 
 pub good_line-good-requires : goal.good_line-good-requires

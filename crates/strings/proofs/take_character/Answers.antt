@@ -1,8 +1,7 @@
 use Rattle.rules.specs.Book.{state}
-use mathlib.Core.Path.{◌≡◌, refl, sym, ap, ◌∙◌}
+use mathlib.Core.Path.{sym, ap, ◌∙◌}
 use native.Mathlib.Omega.{arith}
 use Rattle.rules.specs.Step.{done_by}
-use Prim.Native.Nat.{ℕ}
 use mathlib.Core.Path.{subst}
 use mathlib.Core.Bool.{true}
 use Rattle.lines.proofs.Good.{good_facts}
@@ -12,10 +11,9 @@ use Rattle.rules.specs.Step.{outcome_giving}
 use Rattle.rules.specs.Steps.{Action, execute, character_event}
 use Rattle.rules.specs.declared.Outcome.{Outcome}
 use Rattle.rules.specs.declared.Run.{Run}
-use Rattle.rules.specs.Book.{State, on_run}
+use Rattle.rules.specs.Book.{on_run}
 use Rattle.laws.proofs.Validity.{near_at}
 use Rattle.laws.proofs.Gets.{take-printable, take_event, passed_ready}
-use borrow.Author.Rules.{rules}
 use Rattle.strings.proofs.take_character.Goals as goal
 
 pub character_here-b-requires : goal.character_here-b-requires

@@ -2,7 +2,6 @@ use lib.Seq.{sets}
 use lib.ListN.{take, drop}
 use mathlib.Core.Path.{ap, ◌∙◌}
 use Prim.Native.Nat.{ℕ}
-use borrow.Author.Rules.{rules}
 use Rattle.strings.proofs.take_some.Goals as goal
 
 pub returns : goal.returns

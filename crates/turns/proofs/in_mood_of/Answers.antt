@@ -1,5 +1,4 @@
 use Rattle.turns.proofs.Turning.{moods_both, moods_read, moods_other, moods_write}
-use borrow.Author.Rules.{rules}
 use Rattle.turns.proofs.in_mood_of.Goals as goal
 
 pub returns-then-run-2 : goal.returns-then-run-2

@@ -1,5 +1,4 @@
 use Rattle.turns.proofs.Turning.{follows_none, follows_split, follows_answer, follows_other}
-use borrow.Author.Rules.{rules}
 use Rattle.turns.proofs.newline_follows.Goals as goal
 
 pub returns-then-reading : goal.returns-then-reading

@@ -1,6 +1,5 @@
 use mathlib.Core.Bool.{not}
-use mathlib.Core.Path.{◌≡◌, ap, ◌∙◌}
-use borrow.Author.Rules.{rules}
+use mathlib.Core.Path.{ap}
 use Rattle.turns.proofs.on_turning_line.Goals as goal
 
 pub returns-then-reading : goal.returns-then-reading

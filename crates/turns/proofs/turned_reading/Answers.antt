@@ -1,8 +1,7 @@
 use Rattle.rules.specs.Book.{moved_to, next_line}
 use Rattle.rules.specs.declared.Run.{Run}
 use native.Mathlib.Omega.{arith}
-use mathlib.Core.Path.{◌≡◌, ap, ◌∙◌}
-use borrow.Author.Rules.{rules}
+use mathlib.Core.Path.{ap, ◌∙◌}
 use Rattle.turns.proofs.turned_reading.Goals as goal
 
 pub signalled-next-requires : goal.signalled-next-requires

@@ -2,10 +2,7 @@ use Rattle.stores.proofs.Smalls.{SmallRun}
 use Rattle.rules.specs.Step.{end_line}
 use Rattle.rules.specs.Book.{moved_to, state}
 use Rattle.rules.specs.declared.Run.{Run}
-use mathlib.Core.List.{List}
-use Prim.Native.Nat.{ℕ}
-use mathlib.Core.Path.{◌≡◌, refl, sym, ap, subst, ◌∙◌}
-use borrow.Author.Rules.{rules}
+use mathlib.Core.Path.{sym, ap, subst, ◌∙◌}
 use Rattle.turns.proofs.turned_writing.Goals as goal
 
 pub signalled-next-requires : goal.signalled-next-requires

@@ -1,4 +1,3 @@
-use borrow.Author.Rules.{rules}
 use mathlib.Core.Path.{ap, ◌∙◌}
 use Rattle.rules.specs.Book.{state}
 use Rattle.views.proofs.Shown.{shown_page, shown_line, shown_there, shown_end}

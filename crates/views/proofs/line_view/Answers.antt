@@ -3,7 +3,6 @@ use Rattle.rules.specs.Calls.{book}
 use Rattle.rules.specs.Book.{choose}
 use mathlib.Core.Bool.{Bool}
 use mathlib.Core.Path.{sym, ap}
-use borrow.Author.Rules.{rules}
 use native.Mathlib.Omega.{arith}
 use Rattle.views.proofs.Shown.{part_is, part_in}
 use Rattle.views.proofs.line_view.Goals as goal

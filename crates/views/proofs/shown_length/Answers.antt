@@ -1,4 +1,3 @@
-use borrow.Author.Rules.{rules}
 use Rattle.rules.specs.Book.{state}
 use Rattle.views.proofs.Shown.{length_on_end, length-other_line, length-other_page}
 use Rattle.views.proofs.shown_length.Goals as goal

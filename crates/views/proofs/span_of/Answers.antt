@@ -1,8 +1,6 @@
-use borrow.Author.Rules.{rules}
 use mathlib.Core.Path.{sym, ◌∙◌}
 use native.Mathlib.Omega.{arith}
 use lib.ListN.{length}
-use borrow.Author.Tests.{not-true, not-false}
 use Rattle.rules.specs.Book.{state}
 use Rattle.views.proofs.Shown.{shown_small, span_fits, span_refused, span_hidden, span_shown}
 use Rattle.views.proofs.span_of.Goals as goal

@@ -1,4 +1,3 @@
-use borrow.Author.Rules.{rules}
 use Rattle.views.proofs.Shown.{number_call}
 use Rattle.views.proofs.view_number.Goals as goal
 

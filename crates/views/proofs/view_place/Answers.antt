@@ -2,7 +2,6 @@ use Rattle.views.proofs.Shown.{place_refused, place_empty, place_shown}
 use Rattle.views.specs.Spans.{Viewed}
 use Rattle.rules.specs.Calls.{book}
 use mathlib.Core.Path.{sym, subst}
-use borrow.Author.Rules.{rules}
 use Rattle.views.proofs.view_place.Goals as goal
 
 pub returns-then-span-ne0 : goal.returns-then-span-ne0

@@ -1,5 +1,5 @@
 use borrow.Author.Rules.{rules}
-use Rattle.whole.proofs.Digits.{Counted, count_first, count_next, count_all}
+use Rattle.whole.proofs.Digits.{count_first, count_next, count_all}
 use Rattle.whole.proofs.digit_count.Goals as goal
 
 pub loop-m-init : goal.loop-m-init

@@ -1,5 +1,4 @@
-use borrow.Author.Rules.{rules}
-use Rattle.whole.proofs.Digits.{Counted, count_first, count_next, count_all}
+use Rattle.whole.proofs.Digits.{Counted}
 use Rattle.whole.proofs.digit_count.Given as goal
 
 abbrev pub invariant-loop-m : goal.invariant-loop-m

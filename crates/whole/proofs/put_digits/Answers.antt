@@ -1,8 +1,7 @@
 use borrow.Author.Rules.{rules}
-use mathlib.Core.Path.{◌≡◌, refl, sym, ap, ◌∙◌}
+use mathlib.Core.Path.{refl, ◌∙◌}
 use native.Mathlib.Omega.{arith}
-use Rattle.whole.proofs.Digits.{Stored, stored_none, stored_more, stored_all, some_digit}
-use lib.ListN.{length}
+use Rattle.whole.proofs.Digits.{stored_none, stored_more, stored_all, some_digit}
 use Rattle.whole.proofs.put_digits.Goals as goal
 
 pub loop-m-init : goal.loop-m-init

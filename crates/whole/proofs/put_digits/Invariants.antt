@@ -1,7 +1,5 @@
-use borrow.Author.Rules.{rules}
-use mathlib.Core.Path.{◌≡◌, refl, sym, ap, ◌∙◌}
-use native.Mathlib.Omega.{arith}
-use Rattle.whole.proofs.Digits.{Stored, stored_none, stored_more, stored_all, some_digit}
+use mathlib.Core.Path.{◌≡◌}
+use Rattle.whole.proofs.Digits.{Stored}
 use lib.ListN.{length}
 use Rattle.whole.proofs.put_digits.Given as goal
 

@@ -1,7 +1,6 @@
 use native.Mathlib.Omega.{arith}
 use Rattle.whole.proofs.Texts.{signs_short, starred, made}
 use Rattle.whole.proofs.Digits.{at_most_ten}
-use borrow.Author.Rules.{rules}
 use Rattle.whole.proofs.put_padded.Goals as goal
 
 pub overflow_add-size : goal.overflow_add-size

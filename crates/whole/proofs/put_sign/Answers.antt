@@ -1,11 +1,5 @@
-use mathlib.Core.Path.{◌≡◌, refl, sym, ap, ◌∙◌}
+use mathlib.Core.Path.{refl}
 use native.Mathlib.Omega.{arith}
-use lib.Seq.{sets}
-use lib.ListN.{length}
-use mathlib.Core.List.{List, [], ◌∷◌}
-use Rattle.rules.specs.Book.{choose}
-use Rattle.whole.specs.Marked.{signs}
-use borrow.Author.Rules.{rules}
 use Rattle.whole.proofs.put_sign.Goals as goal
 
 pub overflow_sub-end : goal.overflow_sub-end

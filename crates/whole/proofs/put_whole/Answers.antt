@@ -1,15 +1,8 @@
-use mathlib.Core.Path.{◌≡◌, refl, sym, ap, ◌∙◌}
+use mathlib.Core.Path.{ap, ◌∙◌}
 use native.Mathlib.Omega.{arith}
 use Rattle.whole.proofs.Texts.{eleven_of}
 use Rattle.whole.proofs.Signed.{read_is, read_absolute}
-use Rattle.whole.specs.Marked.{negative, marked}
-use Rattle.rules.specs.Whole.{padded}
-use lib.IntN.{ℤ, nat_abs}
-use lib.Seq.{sets}
-use mathlib.Core.List.{List}
-use mathlib.Core.Bool.{Bool, true}
-use Prim.Native.Nat.{ℕ}
-use borrow.Author.Rules.{rules}
+use Rattle.whole.specs.Marked.{negative}
 use Rattle.whole.proofs.put_whole.Goals as goal
 
 pub magnitude-n-requires : goal.magnitude-n-requires

@@ -1,14 +1,10 @@
-use mathlib.Core.Path.{◌≡◌, refl, sym, ap, ◌∙◌}
+use mathlib.Core.Path.{ap, ◌∙◌}
 use native.Mathlib.Omega.{arith}
 use Rattle.whole.proofs.Texts.{whole_9, whole_6, whole_12, whole_0, length_as_read}
 use Rattle.whole.proofs.Signed.{is_lowest, not_lowest, read_is, read_absolute, read_below, read_above, read_within}
 use Rattle.whole.specs.Marked.{negative}
-use Rattle.rules.specs.Whole.{whole_text}
 use lib.Signed.{lt_z}
-use lib.ListN.{length}
-use lib.IntN.{ℤ, pos}
-use Prim.Native.Nat.{ℕ}
-use borrow.Author.Rules.{rules}
+use lib.IntN.{pos}
 use Rattle.whole.proofs.whole.Goals as goal
 
 pub returns-then-v-eqminus2147483648 : goal.returns-then-v-eqminus2147483648

@@ -1,4 +1,4 @@
-use mathlib.Core.Path.{◌≡◌, refl, sym, ap, ◌∙◌}
+use mathlib.Core.Path.{ap, ◌∙◌}
 use native.Mathlib.Omega.{arith}
 use Rattle.whole.proofs.Texts.{signs_short, width_shortest, width_given}
 use Rattle.whole.proofs.Digits.{at_most_ten}
@@ -6,7 +6,6 @@ use Rattle.whole.proofs.Signed.{is_zero, not_zero, read_is, read_absolute}
 use Rattle.whole.specs.Marked.{negative, signs}
 use mathlib.Core.Bool.{Bool, false}
 use lib.ListN.{length}
-use borrow.Author.Rules.{rules}
 use Rattle.whole.proofs.width_of.Goals as goal
 
 pub magnitude-requires : goal.magnitude-requires
