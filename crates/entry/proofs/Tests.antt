@@ -107,13 +107,20 @@ module _ (h : Shape) where
   some_factor (suc a) zero n = absurd (n (mul-zero (suc a)))
   some_factor (suc a) (suc b) n = (omega arith, omega arith)
 
-  pub legal_last : bit_or (bit_or h.pages h.lines) h.characters ≤ 255 → h.pages * h.lines ≤ 1024 → (h.pages * h.lines * h.characters ≡ 0 → ⊥) → leb (h.pages * h.lines * h.characters) 65536 ≡ legal h
+  pub legal_by_bits : bit_or (bit_or h.pages h.lines) h.characters ≤ 255 → h.pages * h.lines ≤ 1024 → (h.pages * h.lines * h.characters ≡ 0 → ⊥) → leb (h.pages * h.lines * h.characters) 65536 ≡ legal h
   unfolding legal within
-  legal_last k a z =
+  legal_by_bits k a z =
       let b = bits_small h.pages h.lines h.characters k in
       let x = some_factor (h.pages * h.lines) h.characters z in
       let y = some_factor h.pages h.lines (λ o. omega (arith, o, x)) in
       rw (le-leb 1 h.pages y.0, le-leb h.pages 255 b.0, le-leb 1 h.lines y.1, le-leb h.lines 255 b.1, le-leb 1 h.characters x.1, le-leb h.characters 255 b.2, le-leb (h.pages * h.lines) 1024 a)
+
+-- ---- the last test of a shape
+
+pub legal_last : (h : Shape) → leb 1 h.pages ≡ true → leb h.pages 255 ≡ true → leb 1 h.lines ≡ true → leb h.lines 255 ≡ true → leb 1 h.characters ≡ true → leb h.characters 255 ≡ true → leb (h.pages * h.lines) 1024 ≡ true
+    → leb (h.pages * h.lines * h.characters) 65536 ≡ legal h
+unfolding legal within
+legal_last h e₁ e₂ e₃ e₄ e₅ e₆ e₇ = rw (e₁, e₂, e₃, e₄, e₅, e₆, e₇)
 
 -- ---- flags
 

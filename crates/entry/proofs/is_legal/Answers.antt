@@ -1,5 +1,5 @@
 use native.Mathlib.Omega.{arith}
-use Rattle.entry.proofs.Tests.{lines_small, characters_small, bits_small, legal_bits, legal_lines_bad, legal_empty, legal_last}
+use Rattle.entry.proofs.Tests.{lines_small, characters_small, bits_small, legal_bits, legal_lines_bad, legal_empty, legal_by_bits}
 use Rattle.entry.proofs.is_legal.Goals as goal
 
 pub returns-then-shape-gt255 : goal.returns-then-shape-gt255
@@ -18,4 +18,4 @@ pub returns-then-all-eq0 : goal.returns-then-all-eq0
 returns-then-all-eq0 c = legal_empty c.args.shape c.if-all-eq0.true
 
 pub returns : goal.returns
-returns c = legal_last c.args.shape c.if-shape-gt255.false c.if-lines-gt1024.false c.if-all-eq0.false
+returns c = legal_by_bits c.args.shape c.if-shape-gt255.false c.if-lines-gt1024.false c.if-all-eq0.false

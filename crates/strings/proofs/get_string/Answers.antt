@@ -1,4 +1,5 @@
-use Rattle.strings.proofs.Parts.{run_short, run_there, got_none, got_one, got_more, getting_start, getting_turn, getting_stops, getting_more, getting_full}
+use Rattle.strings.proofs.Parts.{run_short, run_there, getting_start, getting_full}
+use Rattle.strings.proofs.Turned.{got_none, got_one, got_more, getting_turn, getting_stops, getting_more}
 use mathlib.Core.Path.{refl, sym, ◌∙◌}
 use native.Mathlib.Omega.{arith}
 use lib.ListN.{length-set}

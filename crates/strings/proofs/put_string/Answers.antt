@@ -1,5 +1,6 @@
 use mathlib.Core.Bool.{true}
-use Rattle.strings.proofs.Parts.{run_short, run_there, put_one, put_more, put_turn, put_goes, put_halts}
+use Rattle.strings.proofs.Parts.{run_short, run_there}
+use Rattle.strings.proofs.Turned.{put_one, put_more, put_turn, put_goes, put_halts}
 use mathlib.Core.Path.{refl, sym, ◌∙◌}
 use native.Mathlib.Omega.{arith}
 use Rattle.rules.specs.Book.{state}
