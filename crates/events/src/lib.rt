@@ -60,7 +60,7 @@ pub fn good_page(
     ensures { outcome result text.new lines.new pages.new ≡ execute row.now (Action.good_page reading string) (state run lines.old pages.old) text.old }
 {
     let mut here = run;
-    loop {
+    'turning: loop {
         let good = good_file(here, reading, string, text, lines, pages, row);
         if !running::goes_on(good) {
             return good;

@@ -8,15 +8,20 @@ use lib.ListN.{length, set, replicate, length-set}
 use lib.Seq.{sets}
 use Rattle.rules.specs.Step.{blanks}
 
+-- one turn of a loop that stores the same element
+pub fill_more : (n i b : ℕ) (l : List ℕ) → 0 < n → sets (set l i b) (i + 1) (replicate (n - 1) b) ≡ sets l i (replicate n b)
+fill_more zero i b l h = absurd (omega arith)
+fill_more (suc n) i b l h = rw (sub-one, add-one)
+
 -- one turn of a loop that stores the same element, of n that are left
-pub fill_more : (n i b : ℕ) (l : List ℕ) {m : ℕ} → 0 < n → m ≡ n - 1 → sets (set l i b) (i + 1) (replicate m b) ≡ sets l i (replicate n b)
-fill_more zero i b l h e = absurd (omega arith)
-fill_more (suc n) i b l h e = rw (e, sub-one, add-one)
+pub fill_next : (n i b : ℕ) (l : List ℕ) {m : ℕ} → 0 < n → m ≡ n - 1 → sets (set l i b) (i + 1) (replicate m b) ≡ sets l i (replicate n b)
+fill_next zero i b l h e = absurd (omega arith)
+fill_next (suc n) i b l h e = rw (e, sub-one, add-one)
 
 -- none is left, or the list has no place for them
-pub fill_all : (n i b : ℕ) (l : List ℕ) {l' : List ℕ} → n ≤ 0 → sets l i (replicate n b) ≡ l' → l ≡ l'
-fill_all zero i b l h e = e
-fill_all (suc n) i b l h e = absurd (omega arith)
+pub none_left : (n i b : ℕ) (l : List ℕ) {l' : List ℕ} → n ≤ 0 → sets l i (replicate n b) ≡ l' → l ≡ l'
+none_left zero i b l h e = e
+none_left (suc n) i b l h e = absurd (omega arith)
 
 set_past : (l : List ℕ) (i b : ℕ) → length l ≤ i → set l i b ≡ l
 set_past [] i b h = refl

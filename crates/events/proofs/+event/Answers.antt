@@ -51,32 +51,32 @@ good_file-loop-word-preserved t c = (looped_again c.loop-word.invariant.0 (from_
 pub good_file-returns : goal.good_file-returns
 good_file-returns t c = good_file_stays _ _ _ _ c.loop-word.text c.loop-word.invariant.0.from.ready (sym c.file_ended.ensures ∙ c.loop-word-test.false) c.finish.ensures ∙ sym c.loop-word.invariant.0.same
 
-pub good_page-loop-good-init : goal.good_page-loop-good-init
-good_page-loop-good-init t c = (looped_start c.args.text.now c.requires, refl, refl, refl)
+pub good_page-turning-init : goal.good_page-turning-init
+good_page-turning-init t c = (looped_start c.args.text.now c.requires, refl, refl, refl)
 
 pub good_page-good_file-good-requires : goal.good_page-good_file-good-requires
-good_page-good_file-good-requires t c = let x = from_lower c.loop-good.invariant.0.from (Action.good_file c.args.reading c.args.string) (omega arith) in (below c.decreases x.1, x.0)
+good_page-good_file-good-requires t c = let x = from_lower c.turning.invariant.0.from (Action.good_file c.args.reading c.args.string) (omega arith) in (below c.decreases x.1, x.0)
 
 pub good_page-returns-then-not-goes_on : goal.good_page-returns-then-not-goes_on
-good_page-returns-then-not-goes_on t c = hands_on c.good_file-good.result (c.loop-good.invariant.0.same ∙ held_ends _ _ _ _ _ _ (law_good_page _ _ _ _ c.loop-good.text c.loop-good.invariant.0.from.ready) (halted c.good_file-good.result c.good_file-good.ensures (sym c.goes_on.ensures ∙ c.if-not-goes_on.true))) (sym c.goes_on.ensures ∙ c.if-not-goes_on.true)
+good_page-returns-then-not-goes_on t c = hands_on c.good_file-good.result (c.turning.invariant.0.same ∙ held_ends _ _ _ _ _ _ (law_good_page _ _ _ _ c.turning.text c.turning.invariant.0.from.ready) (halted c.good_file-good.result c.good_file-good.ensures (sym c.goes_on.ensures ∙ c.if-not-goes_on.true))) (sym c.goes_on.ensures ∙ c.if-not-goes_on.true)
 
 pub good_page-page_ended-requires : goal.good_page-page_ended-requires
 good_page-page_ended-requires t c = tt
 
 pub good_page-returns-then-not-page_ended : goal.good_page-returns-then-not-page_ended
-good_page-returns-then-not-page_ended t c = hands_done c.good_file-good.result (c.loop-good.invariant.0.same ∙ held_stays _ _ _ _ _ _ (law_good_page _ _ _ _ c.loop-good.text c.loop-good.invariant.0.from.ready) (reached c.good_file-good.result c.good_file-good.ensures (sym c.goes_on.ensures ∙ c.if-not-goes_on.false)) (sym c.page_ended.ensures ∙ c.if-not-page_ended.true)) (sym c.goes_on.ensures ∙ c.if-not-goes_on.false)
+good_page-returns-then-not-page_ended t c = hands_done c.good_file-good.result (c.turning.invariant.0.same ∙ held_stays _ _ _ _ _ _ (law_good_page _ _ _ _ c.turning.text c.turning.invariant.0.from.ready) (reached c.good_file-good.result c.good_file-good.ensures (sym c.goes_on.ensures ∙ c.if-not-goes_on.false)) (sym c.page_ended.ensures ∙ c.if-not-page_ended.true)) (sym c.goes_on.ensures ∙ c.if-not-goes_on.false)
 
 pub good_page-page_end-turned-requires : goal.good_page-page_end-turned-requires
-good_page-page_end-turned-requires t c = let x = from_lower (looped_on c.loop-good.invariant.0 (good_page_from _ _ _ _ c.loop-good.text c.loop-good.invariant.0.from.ready (reached c.good_file-good.result c.good_file-good.ensures (sym c.goes_on.ensures ∙ c.if-not-goes_on.false)))) (Action.at_page_end c.args.reading) (omega arith) in (below c.decreases x.1, x.0)
+good_page-page_end-turned-requires t c = let x = from_lower (looped_on c.turning.invariant.0 (good_page_from _ _ _ _ c.turning.text c.turning.invariant.0.from.ready (reached c.good_file-good.result c.good_file-good.ensures (sym c.goes_on.ensures ∙ c.if-not-goes_on.false)))) (Action.at_page_end c.args.reading) (omega arith) in (below c.decreases x.1, x.0)
 
 pub good_page-returns-then-not-goes_on-2 : goal.good_page-returns-then-not-goes_on-2
-good_page-returns-then-not-goes_on-2 t c = hands_on c.page_end-turned.result (c.loop-good.invariant.0.same ∙ held_event_ends _ _ _ _ _ _ (law_good_page _ _ _ _ c.loop-good.text c.loop-good.invariant.0.from.ready) (reached c.good_file-good.result c.good_file-good.ensures (sym c.goes_on.ensures ∙ c.if-not-goes_on.false)) (sym c.page_ended.ensures ∙ c.if-not-page_ended.false) (halted c.page_end-turned.result c.page_end-turned.ensures (sym c.goes_on-in-loop-good.ensures ∙ c.if-not-goes_on-2.true))) (sym c.goes_on-in-loop-good.ensures ∙ c.if-not-goes_on-2.true)
+good_page-returns-then-not-goes_on-2 t c = hands_on c.page_end-turned.result (c.turning.invariant.0.same ∙ held_event_ends _ _ _ _ _ _ (law_good_page _ _ _ _ c.turning.text c.turning.invariant.0.from.ready) (reached c.good_file-good.result c.good_file-good.ensures (sym c.goes_on.ensures ∙ c.if-not-goes_on.false)) (sym c.page_ended.ensures ∙ c.if-not-page_ended.false) (halted c.page_end-turned.result c.page_end-turned.ensures (sym c.goes_on-in-turning.ensures ∙ c.if-not-goes_on-2.true))) (sym c.goes_on-in-turning.ensures ∙ c.if-not-goes_on-2.true)
 
-pub good_page-loop-good-smaller : goal.good_page-loop-good-smaller
-good_page-loop-good-smaller t c = looped_less c.loop-good.invariant.0 (good_page_from _ _ _ _ c.loop-good.text c.loop-good.invariant.0.from.ready (reached c.good_file-good.result c.good_file-good.ensures (sym c.goes_on.ensures ∙ c.if-not-goes_on.false))) (good_page_on _ _ _ _ c.loop-good.text c.loop-good.invariant.0.from.ready (reached c.good_file-good.result c.good_file-good.ensures (sym c.goes_on.ensures ∙ c.if-not-goes_on.false)) (reached c.page_end-turned.result c.page_end-turned.ensures (sym c.goes_on-in-loop-good.ensures ∙ c.if-not-goes_on-2.false)))
+pub good_page-turning-smaller : goal.good_page-turning-smaller
+good_page-turning-smaller t c = looped_less c.turning.invariant.0 (good_page_from _ _ _ _ c.turning.text c.turning.invariant.0.from.ready (reached c.good_file-good.result c.good_file-good.ensures (sym c.goes_on.ensures ∙ c.if-not-goes_on.false))) (good_page_on _ _ _ _ c.turning.text c.turning.invariant.0.from.ready (reached c.good_file-good.result c.good_file-good.ensures (sym c.goes_on.ensures ∙ c.if-not-goes_on.false)) (reached c.page_end-turned.result c.page_end-turned.ensures (sym c.goes_on-in-turning.ensures ∙ c.if-not-goes_on-2.false)))
 
-pub good_page-loop-good-preserved : goal.good_page-loop-good-preserved
-good_page-loop-good-preserved t c = (looped_again c.loop-good.invariant.0 (good_page_from _ _ _ _ c.loop-good.text c.loop-good.invariant.0.from.ready (reached c.good_file-good.result c.good_file-good.ensures (sym c.goes_on.ensures ∙ c.if-not-goes_on.false))) (good_page_on _ _ _ _ c.loop-good.text c.loop-good.invariant.0.from.ready (reached c.good_file-good.result c.good_file-good.ensures (sym c.goes_on.ensures ∙ c.if-not-goes_on.false)) (reached c.page_end-turned.result c.page_end-turned.ensures (sym c.goes_on-in-loop-good.ensures ∙ c.if-not-goes_on-2.false))) (held_again _ _ _ _ _ _ (law_good_page _ _ _ _ c.loop-good.text c.loop-good.invariant.0.from.ready) (reached c.good_file-good.result c.good_file-good.ensures (sym c.goes_on.ensures ∙ c.if-not-goes_on.false)) (sym c.page_ended.ensures ∙ c.if-not-page_ended.false) (reached c.page_end-turned.result c.page_end-turned.ensures (sym c.goes_on-in-loop-good.ensures ∙ c.if-not-goes_on-2.false))), c.page_end-turned.auto.text ∙ c.good_file-good.auto.text ∙ c.loop-good.invariant.1, c.page_end-turned.auto.lines ∙ c.good_file-good.auto.lines ∙ c.loop-good.invariant.2, c.page_end-turned.auto.pages ∙ c.good_file-good.auto.pages ∙ c.loop-good.invariant.3)
+pub good_page-turning-preserved : goal.good_page-turning-preserved
+good_page-turning-preserved t c = (looped_again c.turning.invariant.0 (good_page_from _ _ _ _ c.turning.text c.turning.invariant.0.from.ready (reached c.good_file-good.result c.good_file-good.ensures (sym c.goes_on.ensures ∙ c.if-not-goes_on.false))) (good_page_on _ _ _ _ c.turning.text c.turning.invariant.0.from.ready (reached c.good_file-good.result c.good_file-good.ensures (sym c.goes_on.ensures ∙ c.if-not-goes_on.false)) (reached c.page_end-turned.result c.page_end-turned.ensures (sym c.goes_on-in-turning.ensures ∙ c.if-not-goes_on-2.false))) (held_again _ _ _ _ _ _ (law_good_page _ _ _ _ c.turning.text c.turning.invariant.0.from.ready) (reached c.good_file-good.result c.good_file-good.ensures (sym c.goes_on.ensures ∙ c.if-not-goes_on.false)) (sym c.page_ended.ensures ∙ c.if-not-page_ended.false) (reached c.page_end-turned.result c.page_end-turned.ensures (sym c.goes_on-in-turning.ensures ∙ c.if-not-goes_on-2.false))), c.page_end-turned.auto.text ∙ c.good_file-good.auto.text ∙ c.turning.invariant.1, c.page_end-turned.auto.lines ∙ c.good_file-good.auto.lines ∙ c.turning.invariant.2, c.page_end-turned.auto.pages ∙ c.good_file-good.auto.pages ∙ c.turning.invariant.3)
 
 pub newline-loop-good-init : goal.newline-loop-good-init
 newline-loop-good-init t c = (looped_start c.args.text.now c.requires, refl, refl, refl)

@@ -36,11 +36,11 @@ invariant-good_file-loop-word l = Looped l.row (Action.good_file l.reading l.str
 abbrev pub decreases-good_file-loop-word : goal.decreases-good_file-loop-word
 decreases-good_file-loop-word l = measure l.row (Action.good_file l.reading l.string) (state l.here l.lines l.pages)
 
-abbrev pub invariant-good_page-loop-good : goal.invariant-good_page-loop-good
-invariant-good_page-loop-good l = Looped l.row (Action.good_page l.reading l.string) (state l.initial.here l.fn.lines l.fn.pages) l.fn.text (state l.here l.lines l.pages) l.text × (length l.text ≡ length l.fn.text) × (length l.lines ≡ length l.fn.lines) × (length l.pages ≡ length l.fn.pages)
+abbrev pub invariant-good_page-turning : goal.invariant-good_page-turning
+invariant-good_page-turning l = Looped l.row (Action.good_page l.reading l.string) (state l.initial.here l.fn.lines l.fn.pages) l.fn.text (state l.here l.lines l.pages) l.text × (length l.text ≡ length l.fn.text) × (length l.lines ≡ length l.fn.lines) × (length l.pages ≡ length l.fn.pages)
 
-abbrev pub decreases-good_page-loop-good : goal.decreases-good_page-loop-good
-decreases-good_page-loop-good l = measure l.row (Action.good_page l.reading l.string) (state l.here l.lines l.pages)
+abbrev pub decreases-good_page-turning : goal.decreases-good_page-turning
+decreases-good_page-turning l = measure l.row (Action.good_page l.reading l.string) (state l.here l.lines l.pages)
 
 abbrev pub invariant-newline-loop-good : goal.invariant-newline-loop-good
 invariant-newline-loop-good l = Looped l.row (Action.newline l.reading) (state l.initial.here l.fn.lines l.fn.pages) l.fn.text (state l.here l.lines l.pages) l.text × (length l.text ≡ length l.fn.text) × (length l.lines ≡ length l.fn.lines) × (length l.pages ≡ length l.fn.pages)
