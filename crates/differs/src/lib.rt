@@ -36,7 +36,7 @@ pub fn differs_at(xs: &[u8], ys: &[u8], place: usize) -> bool
 // The last place of the run of differing places that begins at one.
 pub fn run_last(xs: &[u8], ys: &[u8], first: usize) -> usize
     requires le_first { (1 ≤ first) × (length xs.now ≤ 255) × (length ys.now ≤ 255) }
-    requires first_value { place_differs xs.now ys.now first ≡ true }
+    requires first_differs { place_differs xs.now ys.now first ≡ true }
     ensures { Stretch (place_differs xs.now ys.now) first result }
 {
     let mut last = first;
@@ -179,8 +179,8 @@ pub fn note_line(
     other_pages: &[u8],
 ) -> usize
     requires count_bound { (count ≤ 2 ^ 29) × (page ≤ 255) × (line ≤ 255) }
-    requires t { T (all_fits (length text.now) (state run lines.now pages.now)) }
-    requires t_2 { T (all_fits (length other_text.now) (state other other_lines.now other_pages.now)) }
+    requires book_good { T (all_fits (length text.now) (state run lines.now pages.now)) }
+    requires other_good { T (all_fits (length other_text.now) (state other other_lines.now other_pages.now)) }
     ensures { Noted 255 (line_spans page line (line_at page line (state run lines.now pages.now) text.now) (line_at page line (state other other_lines.now other_pages.now) other_text.now)) (tally count list.old) (tally result list.new) }
 {
     let here = line_span(run, page, line, text, lines, pages);
@@ -214,8 +214,8 @@ pub fn note_page(
     other_pages: &[u8],
 ) -> usize
     requires count_bound { (count ≤ 2 ^ 28) × (page ≤ 255) }
-    requires t { T (all_fits (length text.now) (state run lines.now pages.now)) }
-    requires t_2 { T (all_fits (length other_text.now) (state other other_lines.now other_pages.now)) }
+    requires book_good { T (all_fits (length text.now) (state run lines.now pages.now)) }
+    requires other_good { T (all_fits (length other_text.now) (state other other_lines.now other_pages.now)) }
     ensures { Noted 65025 (page_spans page (state run lines.now pages.now) text.now (state other other_lines.now other_pages.now) other_text.now) (tally count list.old) (tally result list.new) }
 {
     let limit = larger(run.file.shape.lines, other.file.shape.lines);
@@ -253,8 +253,8 @@ pub fn note_book(
     other_lines: &[u8],
     other_pages: &[u8],
 ) -> usize
-    requires t { T (all_fits (length text.now) (state run lines.now pages.now)) }
-    requires t_2 { T (all_fits (length other_text.now) (state other other_lines.now other_pages.now)) }
+    requires book_good { T (all_fits (length text.now) (state run lines.now pages.now)) }
+    requires other_good { T (all_fits (length other_text.now) (state other other_lines.now other_pages.now)) }
     ensures { tally result list.new ≡ walked (spans (state run lines.now pages.now) text.now (state other other_lines.now other_pages.now) other_text.now) (tally 0 list.old) }
 {
     let limit = larger(run.file.shape.pages, other.file.shape.pages);

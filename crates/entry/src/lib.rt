@@ -238,7 +238,7 @@ pub fn is_reached(
     end: Position,
 ) -> bool
     requires lent { Lent shape text lines.now pages.now }
-    requires end_value { in_bounds shape (lengths lines.now pages.now) end ≡ true }
+    requires end_in_bounds { in_bounds shape (lengths lines.now pages.now) end ≡ true }
     ensures { result ≡ (not (before end position) && in_bounds shape (lengths lines.now pages.now) position) }
 {
     if position.character < 1 {

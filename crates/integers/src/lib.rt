@@ -217,8 +217,8 @@ pub fn first_digit(
     row: &[u32],
 ) -> Taken
     requires ready { Ready row.now Action.pass_blanks (state run lines.old pages.old) }
-    requires pages_value { line_good true (state run lines.old pages.old) ≡ true }
-    requires t { T (row_fits row.now) }
+    requires line_is_good { line_good true (state run lines.old pages.old) ≡ true }
+    requires row_good { T (row_fits row.now) }
     ensures { outcome_giving result.byte result.outcome text.new lines.new pages.new ≡ first_digit row.now (state run lines.old pages.old) text.old }
 {
     let b = places::character_here(run, text);
@@ -377,7 +377,7 @@ pub fn take_integer(
     row: &[u32],
 ) -> Found
     requires ready { Ready row.now Action.pass_blanks (state run lines.old pages.old) }
-    requires t { T (row_fits row.now) }
+    requires row_good { T (row_fits row.now) }
     requires events_bound { run.events ≤ 2 ^ 40 }
     ensures { given_out result.run result.given text.new lines.new pages.new ≡ take_integer row.now (state run lines.old pages.old) text.old }
 {

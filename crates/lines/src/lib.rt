@@ -28,7 +28,7 @@ pub fn character_event(
     row: &[u32],
 ) -> Taken
     requires ready { Ready row.now Action.pass_blanks (state run lines.old pages.old) }
-    requires t { T (row_fits row.now) }
+    requires row_good { T (row_fits row.now) }
     ensures { outcome_giving result.byte result.outcome text.new lines.new pages.new ≡ character_event row.now (execute row.now) reading b (state run lines.old pages.old) text.old }
 {
     let word = running::next_word(run, row);
@@ -94,7 +94,7 @@ pub fn follow_writing(
     event: Event,
 ) -> Outcome
     requires ready { Ready row.now (Action.answered reading (mending_of word)) (state run lines.old pages.old) }
-    requires word_value { (kind_of word ≡ 2) × (run.file.reading ≡ false) }
+    requires newline_asked { (kind_of word ≡ 2) × (run.file.reading ≡ false) }
     ensures { outcome result text.new lines.new pages.new ≡ followed row.now event reading word (state run lines.old pages.old) text.old }
 {
     if !run.file.writing {
@@ -250,7 +250,7 @@ pub fn try_character(
     row: &[u32],
 ) -> Outcome
     requires ready { Ready row.now (Action.put_character string b) (state run lines.old pages.old) }
-    requires t { T (row_fits row.now) }
+    requires row_good { T (row_fits row.now) }
     ensures { outcome result text.new lines.new pages.new ≡ execute row.now (Action.put_character string b) (state run lines.old pages.old) text.old }
 {
     let mut here = run;
@@ -285,7 +285,7 @@ pub fn put_character(
     row: &[u32],
 ) -> Outcome
     requires ready { Ready row.now (Action.put_character false b) (state run lines.old pages.old) }
-    requires t { T (row_fits row.now) }
+    requires row_good { T (row_fits row.now) }
     ensures { outcome result text.new lines.new pages.new ≡ execute row.now (Action.put_character false b) (state run lines.old pages.old) text.old }
 {
     if characters::is_printable(b) {

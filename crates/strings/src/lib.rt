@@ -114,7 +114,7 @@ pub fn put_string(
     row: &[u32],
 ) -> Outcome
     requires ready { Ready row.now (Action.put_character true 0) (state run lines.old pages.old) }
-    requires t { T (row_fits row.now) }
+    requires row_good { T (row_fits row.now) }
     ensures { outcome result text.new lines.new pages.new ≡ put_characters row.now true bytes.now (state run lines.old pages.old) text.old }
 {
     let mut here = run;
@@ -149,8 +149,8 @@ pub fn take_character(
     row: &[u32],
 ) -> Taken
     requires ready { Ready row.now Action.pass_blanks (state run lines.old pages.old) }
-    requires pages_value { line_good true (state run lines.old pages.old) ≡ true }
-    requires t { T (row_fits row.now) }
+    requires line_is_good { line_good true (state run lines.old pages.old) ≡ true }
+    requires row_good { T (row_fits row.now) }
     ensures { outcome_giving result.byte result.outcome text.new lines.new pages.new ≡ take_character row.now (state run lines.old pages.old) text.old }
 {
     let b = places::character_here(run, text);
@@ -179,7 +179,7 @@ pub fn string_character(
     row: &[u32],
 ) -> Taken
     requires ready { Ready row.now Action.pass_blanks (state run lines.old pages.old) }
-    requires t { T (row_fits row.now) }
+    requires row_good { T (row_fits row.now) }
     ensures { outcome_giving result.byte result.outcome text.new lines.new pages.new ≡ string_character row.now terminators.now (state run lines.old pages.old) text.old }
 {
     let good = lines::good_line(run, true, true, text, lines, pages, row);
@@ -249,7 +249,7 @@ pub fn get_string(
     row: &[u32],
 ) -> Delivered
     requires ready { Ready row.now Action.pass_blanks (state run lines.old pages.old) }
-    requires t { T (row_fits row.now) }
+    requires row_good { T (row_fits row.now) }
     ensures { (get_characters row.now terminators.now (length output.old) [] (state run lines.old pages.old) text.old ≡ done (a_string (take result.count output.new) (ending_by (outcome_with result.run result.status))) (state result.run lines.new pages.new) text.new) × (result.count ≤ length output.old) × (drop result.count output.new ≡ drop result.count output.old) }
 {
     let mut here = run;

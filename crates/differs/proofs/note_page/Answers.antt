@@ -10,10 +10,10 @@ pub loop-line-init : goal.loop-line-init
 loop-line-init c = (refl, along_first (spans_of_line (state c.args.run c.args.lines.now c.args.pages.now) c.args.text.now (state c.args.other c.args.other_lines.now c.args.other_pages.now) c.args.other_text.now c.args.page) (most_lines (state c.args.run c.args.lines.now c.args.pages.now) c.args.text.now (state c.args.other c.args.other_lines.now c.args.other_pages.now) c.args.other_text.now) 255 (tally c.args.count c.args.list.now))
 
 pub note_line-n-requires : goal.note_line-n-requires
-note_line-n-requires c = record { count_bound = (omega (arith, c.loop-line.invariant.1.few, c.loop-line.invariant.1.high, c.requires.count_bound, most_lines_lem (state c.args.run c.args.lines.now c.args.pages.now) c.args.text.now (state c.args.other c.args.other_lines.now c.args.other_pages.now) c.args.other_text.now c.requires.t c.requires.t_2), c.requires.count_bound.1, omega (arith, c.loop-line-test.true, c.larger-limit.ensures, most_lines_lem (state c.args.run c.args.lines.now c.args.pages.now) c.args.text.now (state c.args.other c.args.other_lines.now c.args.other_pages.now) c.args.other_text.now c.requires.t c.requires.t_2)); t = c.requires.t; t_2 = c.requires.t_2 }
+note_line-n-requires c = record { count_bound = (omega (arith, c.loop-line.invariant.1.few, c.loop-line.invariant.1.high, c.requires.count_bound, most_lines_lem (state c.args.run c.args.lines.now c.args.pages.now) c.args.text.now (state c.args.other c.args.other_lines.now c.args.other_pages.now) c.args.other_text.now c.requires.book_good c.requires.other_good), c.requires.count_bound.1, omega (arith, c.loop-line-test.true, c.larger-limit.ensures, most_lines_lem (state c.args.run c.args.lines.now c.args.pages.now) c.args.text.now (state c.args.other c.args.other_lines.now c.args.other_pages.now) c.args.other_text.now c.requires.book_good c.requires.other_good)); book_good = c.requires.book_good; other_good = c.requires.other_good }
 
 pub overflow_add-line : goal.overflow_add-line
-overflow_add-line c = omega (arith, c.loop-line.invariant.1.high, most_lines_lem (state c.args.run c.args.lines.now c.args.pages.now) c.args.text.now (state c.args.other c.args.other_lines.now c.args.other_pages.now) c.args.other_text.now c.requires.t c.requires.t_2)
+overflow_add-line c = omega (arith, c.loop-line.invariant.1.high, most_lines_lem (state c.args.run c.args.lines.now c.args.pages.now) c.args.text.now (state c.args.other c.args.other_lines.now c.args.other_pages.now) c.args.other_text.now c.requires.book_good c.requires.other_good)
 
 pub loop-line-smaller : goal.loop-line-smaller
 loop-line-smaller c = omega (arith, c.loop-line-test.true, c.larger-limit.ensures)
@@ -25,4 +25,4 @@ pub shape_of-list : goal.shape_of-list
 shape_of-list c = c.loop-line.invariant.0
 
 pub returns : goal.returns
-returns c = page_noted (state c.args.run c.args.lines.now c.args.pages.now) c.args.text.now (state c.args.other c.args.other_lines.now c.args.other_pages.now) c.args.other_text.now c.args.page (omega (arith, c.loop-line-test.false, c.larger-limit.ensures)) (omega (arith, c.loop-line.invariant.1.high, most_lines_lem (state c.args.run c.args.lines.now c.args.pages.now) c.args.text.now (state c.args.other c.args.other_lines.now c.args.other_pages.now) c.args.other_text.now c.requires.t c.requires.t_2)) c.loop-line.invariant.1
+returns c = page_noted (state c.args.run c.args.lines.now c.args.pages.now) c.args.text.now (state c.args.other c.args.other_lines.now c.args.other_pages.now) c.args.other_text.now c.args.page (omega (arith, c.loop-line-test.false, c.larger-limit.ensures)) (omega (arith, c.loop-line.invariant.1.high, most_lines_lem (state c.args.run c.args.lines.now c.args.pages.now) c.args.text.now (state c.args.other c.args.other_lines.now c.args.other_pages.now) c.args.other_text.now c.requires.book_good c.requires.other_good)) c.loop-line.invariant.1

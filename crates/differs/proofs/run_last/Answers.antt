@@ -7,7 +7,7 @@ use mathlib.Core.Path.{◌≡◌, sym, ap, ◌∙◌}
 use Rattle.differs.proofs.run_last.Goals as goal
 
 pub loop-last-init : goal.loop-last-init
-loop-last-init c = (omega arith, λ x a b. let e : x ≡ c.args.first = omega arith in ap (place_differs c.args.xs.now c.args.ys.now) e ∙ c.requires.first_value)
+loop-last-init c = (omega arith, λ x a b. let e : x ≡ c.args.first = omega arith in ap (place_differs c.args.xs.now c.args.ys.now) e ∙ c.requires.first_differs)
 
 pub overflow_add-last : goal.overflow_add-last
 overflow_add-last c = omega (arith, differs_in c.args.xs.now c.args.ys.now c.loop-last.last (c.loop-last.invariant.1 c.loop-last.last c.loop-last.invariant.0 (omega arith)), c.requires.le_first.1, c.requires.le_first.2)

@@ -8,7 +8,7 @@ pub returns-then-position-lt1 : goal.returns-then-position-lt1
 returns-then-position-lt1 c = reached_low c.args.shape (lengths c.args.lines.now c.args.pages.now) c.args.position c.args.end c.if-position-lt1.true
 
 pub returns-then-position-end-2 : goal.returns-then-position-end-2
-returns-then-position-end-2 c = reached_same c.args.shape (lengths c.args.lines.now c.args.pages.now) c.args.position c.args.end c.requires.end_value (omega (arith, c.if-position-lt1.false)) c.if-position-end.true c.if-position-end-2.true
+returns-then-position-end-2 c = reached_same c.args.shape (lengths c.args.lines.now c.args.pages.now) c.args.position c.args.end c.requires.end_in_bounds (omega (arith, c.if-position-lt1.false)) c.if-position-end.true c.if-position-end-2.true
 
 pub returns-then-end-position : goal.returns-then-end-position
 returns-then-end-position c = reached_line c.args.shape (lengths c.args.lines.now c.args.pages.now) c.args.position c.args.end c.if-position-end.true c.if-end-position.true

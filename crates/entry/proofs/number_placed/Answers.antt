@@ -12,7 +12,7 @@ pub returns-then-not-is_within : goal.returns-then-not-is_within
 returns-then-not-is_within c = simp (eq-eqb c.args.sound 0 c.if-sound-ne0.false, sym c.is_within.ensures ∙ c.if-not-is_within.true)
 
 pub is_reached-requires : goal.is_reached-requires
-is_reached-requires c = record { lent = c.requires c.if-sound-ne0.false; end_value = sym c.is_within.ensures ∙ c.if-not-is_within.false }
+is_reached-requires c = record { lent = c.requires c.if-sound-ne0.false; end_in_bounds = sym c.is_within.ensures ∙ c.if-not-is_within.false }
 
 pub returns-then-is_reached : goal.returns-then-is_reached
 returns-then-is_reached c = simp (eq-eqb c.args.sound 0 c.if-sound-ne0.false, sym c.is_within.ensures ∙ c.if-not-is_within.false, sym c.is_reached.ensures ∙ c.if-is_reached.true)

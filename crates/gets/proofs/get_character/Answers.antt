@@ -18,7 +18,7 @@ pub returns-then-not-goes_on-2 : goal.returns-then-not-goes_on-2
 returns-then-not-goes_on-2 c = character_line c.args.row.now c.args.file c.args.end c.args.text.now c.args.lines.now c.args.pages.now c.start-start.ensures c.prepared-o.ensures (sym c.goes_on.ensures ∙ c.if-not-goes_on.false) c.good_line-good.result _ _ _ c.good_line-good.ensures (sym c.goes_on-2.ensures ∙ c.if-not-goes_on-2.true) c.ended-then-not-goes_on-2.ensures
 
 pub take_character-taken-requires : goal.take_character-taken-requires
-take_character-taken-requires c = record { ready = (from_gain _ (begun_ready c.args.row.now c.args.file c.args.end c.args.text.now c.args.lines.now c.args.pages.now true c.start-start.ensures c.prepared-o.ensures (sym c.goes_on.ensures ∙ c.if-not-goes_on.false) Action.pass_blanks) (done_of _ (Action.good_line true false) c.args.text.now (begun_ready c.args.row.now c.args.file c.args.end c.args.text.now c.args.lines.now c.args.pages.now true c.start-start.ensures c.prepared-o.ensures (sym c.goes_on.ensures ∙ c.if-not-goes_on.false) (Action.good_line true false)) (reached c.good_line-good.result c.good_line-good.ensures (sym c.goes_on-2.ensures ∙ c.if-not-goes_on-2.false))).valid (done_of _ (Action.good_line true false) c.args.text.now (begun_ready c.args.row.now c.args.file c.args.end c.args.text.now c.args.lines.now c.args.pages.now true c.start-start.ensures c.prepared-o.ensures (sym c.goes_on.ensures ∙ c.if-not-goes_on.false) (Action.good_line true false)) (reached c.good_line-good.result c.good_line-good.ensures (sym c.goes_on-2.ensures ∙ c.if-not-goes_on-2.false))).took (done_of _ (Action.good_line true false) c.args.text.now (begun_ready c.args.row.now c.args.file c.args.end c.args.text.now c.args.lines.now c.args.pages.now true c.start-start.ensures c.prepared-o.ensures (sym c.goes_on.ensures ∙ c.if-not-goes_on.false) (Action.good_line true false)) (reached c.good_line-good.result c.good_line-good.ensures (sym c.goes_on-2.ensures ∙ c.if-not-goes_on-2.false))).claim.0).ready; pages_value = good_back true _ (done_of _ (Action.good_line true false) c.args.text.now (begun_ready c.args.row.now c.args.file c.args.end c.args.text.now c.args.lines.now c.args.pages.now true c.start-start.ensures c.prepared-o.ensures (sym c.goes_on.ensures ∙ c.if-not-goes_on.false) (Action.good_line true false)) (reached c.good_line-good.result c.good_line-good.ensures (sym c.goes_on-2.ensures ∙ c.if-not-goes_on-2.false))).claim.1; t = begun_row c.args.row.now c.args.file c.args.end c.args.text.now c.args.lines.now c.args.pages.now true c.start-start.ensures c.prepared-o.ensures (sym c.goes_on.ensures ∙ c.if-not-goes_on.false) }
+take_character-taken-requires c = record { ready = (from_gain _ (begun_ready c.args.row.now c.args.file c.args.end c.args.text.now c.args.lines.now c.args.pages.now true c.start-start.ensures c.prepared-o.ensures (sym c.goes_on.ensures ∙ c.if-not-goes_on.false) Action.pass_blanks) (done_of _ (Action.good_line true false) c.args.text.now (begun_ready c.args.row.now c.args.file c.args.end c.args.text.now c.args.lines.now c.args.pages.now true c.start-start.ensures c.prepared-o.ensures (sym c.goes_on.ensures ∙ c.if-not-goes_on.false) (Action.good_line true false)) (reached c.good_line-good.result c.good_line-good.ensures (sym c.goes_on-2.ensures ∙ c.if-not-goes_on-2.false))).valid (done_of _ (Action.good_line true false) c.args.text.now (begun_ready c.args.row.now c.args.file c.args.end c.args.text.now c.args.lines.now c.args.pages.now true c.start-start.ensures c.prepared-o.ensures (sym c.goes_on.ensures ∙ c.if-not-goes_on.false) (Action.good_line true false)) (reached c.good_line-good.result c.good_line-good.ensures (sym c.goes_on-2.ensures ∙ c.if-not-goes_on-2.false))).took (done_of _ (Action.good_line true false) c.args.text.now (begun_ready c.args.row.now c.args.file c.args.end c.args.text.now c.args.lines.now c.args.pages.now true c.start-start.ensures c.prepared-o.ensures (sym c.goes_on.ensures ∙ c.if-not-goes_on.false) (Action.good_line true false)) (reached c.good_line-good.result c.good_line-good.ensures (sym c.goes_on-2.ensures ∙ c.if-not-goes_on-2.false))).claim.0).ready; line_is_good = good_back true _ (done_of _ (Action.good_line true false) c.args.text.now (begun_ready c.args.row.now c.args.file c.args.end c.args.text.now c.args.lines.now c.args.pages.now true c.start-start.ensures c.prepared-o.ensures (sym c.goes_on.ensures ∙ c.if-not-goes_on.false) (Action.good_line true false)) (reached c.good_line-good.result c.good_line-good.ensures (sym c.goes_on-2.ensures ∙ c.if-not-goes_on-2.false))).claim.1; row_good = begun_row c.args.row.now c.args.file c.args.end c.args.text.now c.args.lines.now c.args.pages.now true c.start-start.ensures c.prepared-o.ensures (sym c.goes_on.ensures ∙ c.if-not-goes_on.false) }
 
 pub shape_of-text-then-not-goes_on-3 : goal.shape_of-text-then-not-goes_on-3
 shape_of-text-then-not-goes_on-3 c = c.take_character-taken.auto.text ∙ c.good_line-good.auto.text

@@ -9,7 +9,7 @@ use Rattle.places.proofs.Goods.{page_good_facts}
 use Rattle.lines.proofs.follow.Goals as goal
 
 pub follow_writing-requires : goal.follow_writing-requires
-follow_writing-requires c = record { ready = c.requires; word_value = (sym c.kind_of.ensures ∙ c.if-kind_of-ne2.false, not-true _ c.if-not-run.true) }
+follow_writing-requires c = record { ready = c.requires; newline_asked = (sym c.kind_of.ensures ∙ c.if-kind_of-ne2.false, not-true _ c.if-not-run.true) }
 
 pub overflow_add-run : goal.overflow_add-run
 overflow_add-run c = omega (arith, near_at c.requires.valid)

@@ -42,7 +42,7 @@ pub returns-then-is_printable : goal.returns-then-is_printable
 returns-then-is_printable c = put_stores _ _ _ _ c.loop-good.text c.loop-good.invariant.0.ready (reached c.reach_line-good.result c.reach_line-good.ensures (sym c.goes_on.ensures ∙ c.if-not-goes_on.false)) (sym c.is_printable.ensures ∙ c.if-is_printable.true) c.store_character-on.ensures.0 c.store_character-on.ensures.1 c.finish.ensures ∙ sym c.loop-good.invariant.0.same
 
 pub character_event-answer-requires : goal.character_event-answer-requires
-character_event-answer-requires c = record { ready = ready_as _ _ _ (put_from _ _ _ _ c.loop-good.text c.loop-good.invariant.0.ready (reached c.reach_line-good.result c.reach_line-good.ensures (sym c.goes_on.ensures ∙ c.if-not-goes_on.false))).ready Action.pass_blanks (omega arith); t = c.requires.t }
+character_event-answer-requires c = record { ready = ready_as _ _ _ (put_from _ _ _ _ c.loop-good.text c.loop-good.invariant.0.ready (reached c.reach_line-good.result c.reach_line-good.ensures (sym c.goes_on.ensures ∙ c.if-not-goes_on.false))).ready Action.pass_blanks (omega arith); row_good = c.requires.row_good }
 
 pub shape_of-text-then-not-goes_on-2 : goal.shape_of-text-then-not-goes_on-2
 shape_of-text-then-not-goes_on-2 c = c.character_event-answer.auto.text ∙ c.reach_line-good.auto.text ∙ c.loop-good.invariant.1

@@ -44,7 +44,7 @@ pub loop-i-preserved-then-turns : goal.loop-i-preserved-then-turns
 loop-i-preserved-then-turns c = ((getting_turn c.loop-i.invariant.0 c.loop-i-test.true (sym c.turns.ensures ∙ c.if-turns.true) c.turned_reading-here.ensures).0, c.loop-i.invariant.1, c.loop-i.invariant.2, c.loop-i.invariant.3, c.loop-i.invariant.4)
 
 pub string_character-got-requires : goal.string_character-got-requires
-string_character-got-requires c = record { ready = c.loop-i.invariant.0.ready; t = c.requires.t }
+string_character-got-requires c = record { ready = c.loop-i.invariant.0.ready; row_good = c.requires.row_good }
 
 pub shape_of-output-then-not-goes_on : goal.shape_of-output-then-not-goes_on
 shape_of-output-then-not-goes_on c = c.loop-i.invariant.4

@@ -47,7 +47,7 @@ pub bounds-bytes-i : goal.bounds-bytes-i
 bounds-bytes-i c = omega (arith, c.loop-i-test.true)
 
 pub try_character-one-requires : goal.try_character-one-requires
-try_character-one-requires c = record { ready = any_character _ c.loop-i.invariant.0.1; t = c.requires.t }
+try_character-one-requires c = record { ready = any_character _ c.loop-i.invariant.0.1; row_good = c.requires.row_good }
 
 pub shape_of-text-then-not-goes_on : goal.shape_of-text-then-not-goes_on
 shape_of-text-then-not-goes_on c = c.try_character-one.auto.text ∙ c.loop-i.invariant.1

@@ -24,7 +24,7 @@ pub returns-then-one_of : goal.returns-then-one_of
 returns-then-one_of c = stops_at 0 c.stopped.ensures ∙ sym (string_terminator c.args.row.now c.args.terminators.now (state c.args.run c.args.lines.now c.args.pages.now) c.args.text.now (reached c.good_line-good.result c.good_line-good.ensures (sym c.goes_on.ensures ∙ c.if-not-goes_on.false)) c.character_here-b.ensures (sym c.one_of.ensures ∙ c.if-one_of.true))
 
 pub take_character-requires : goal.take_character-requires
-take_character-requires c = record { ready = (from_gain _ c.requires.ready (done_of _ (Action.good_line true true) c.args.text.now (ready_as _ Action.pass_blanks (state c.args.run c.args.lines.now c.args.pages.now) c.requires.ready (Action.good_line true true) (omega arith)) (reached c.good_line-good.result c.good_line-good.ensures (sym c.goes_on.ensures ∙ c.if-not-goes_on.false))).valid (done_of _ (Action.good_line true true) c.args.text.now (ready_as _ Action.pass_blanks (state c.args.run c.args.lines.now c.args.pages.now) c.requires.ready (Action.good_line true true) (omega arith)) (reached c.good_line-good.result c.good_line-good.ensures (sym c.goes_on.ensures ∙ c.if-not-goes_on.false))).took (done_of _ (Action.good_line true true) c.args.text.now (ready_as _ Action.pass_blanks (state c.args.run c.args.lines.now c.args.pages.now) c.requires.ready (Action.good_line true true) (omega arith)) (reached c.good_line-good.result c.good_line-good.ensures (sym c.goes_on.ensures ∙ c.if-not-goes_on.false))).claim.0).ready; pages_value = good_back true _ (done_of _ (Action.good_line true true) c.args.text.now (ready_as _ Action.pass_blanks (state c.args.run c.args.lines.now c.args.pages.now) c.requires.ready (Action.good_line true true) (omega arith)) (reached c.good_line-good.result c.good_line-good.ensures (sym c.goes_on.ensures ∙ c.if-not-goes_on.false))).claim.1; t = c.requires.t }
+take_character-requires c = record { ready = (from_gain _ c.requires.ready (done_of _ (Action.good_line true true) c.args.text.now (ready_as _ Action.pass_blanks (state c.args.run c.args.lines.now c.args.pages.now) c.requires.ready (Action.good_line true true) (omega arith)) (reached c.good_line-good.result c.good_line-good.ensures (sym c.goes_on.ensures ∙ c.if-not-goes_on.false))).valid (done_of _ (Action.good_line true true) c.args.text.now (ready_as _ Action.pass_blanks (state c.args.run c.args.lines.now c.args.pages.now) c.requires.ready (Action.good_line true true) (omega arith)) (reached c.good_line-good.result c.good_line-good.ensures (sym c.goes_on.ensures ∙ c.if-not-goes_on.false))).took (done_of _ (Action.good_line true true) c.args.text.now (ready_as _ Action.pass_blanks (state c.args.run c.args.lines.now c.args.pages.now) c.requires.ready (Action.good_line true true) (omega arith)) (reached c.good_line-good.result c.good_line-good.ensures (sym c.goes_on.ensures ∙ c.if-not-goes_on.false))).claim.0).ready; line_is_good = good_back true _ (done_of _ (Action.good_line true true) c.args.text.now (ready_as _ Action.pass_blanks (state c.args.run c.args.lines.now c.args.pages.now) c.requires.ready (Action.good_line true true) (omega arith)) (reached c.good_line-good.result c.good_line-good.ensures (sym c.goes_on.ensures ∙ c.if-not-goes_on.false))).claim.1; row_good = c.requires.row_good }
 
 pub returns : goal.returns
 returns c = c.take_character.ensures ∙ sym (string_takes c.args.row.now c.args.terminators.now (state c.args.run c.args.lines.now c.args.pages.now) c.args.text.now (reached c.good_line-good.result c.good_line-good.ensures (sym c.goes_on.ensures ∙ c.if-not-goes_on.false)) c.character_here-b.ensures (sym c.one_of.ensures ∙ c.if-one_of.false))

@@ -26,7 +26,7 @@ pub returns-then-is_printable : goal.returns-then-is_printable
 returns-then-is_printable c = ap (λ (o : Outcome). outcome_giving c.character_here-b.result o c.args.text.now c.args.lines.now c.args.pages.now) (c.finish.ensures ∙ ap done_by c.moved-on.ensures) ∙ sym (take-printable c.args.row.now (state c.args.run c.args.lines.now c.args.pages.now) c.args.text.now c.character_here-b.ensures (sym c.is_printable.ensures ∙ c.if-is_printable.true))
 
 pub character_event-requires : goal.character_event-requires
-character_event-requires c = record { ready = subst (λ (r : Run). Ready c.args.row.now Action.pass_blanks (on_run (state c.args.run c.args.lines.now c.args.pages.now) r)) (sym c.moved-on.ensures) (passed_ready _ Action.pass_blanks (state c.args.run c.args.lines.now c.args.pages.now) c.requires.ready (good_facts true (state c.args.run c.args.lines.now c.args.pages.now) c.requires.pages_value)); t = c.requires.t }
+character_event-requires c = record { ready = subst (λ (r : Run). Ready c.args.row.now Action.pass_blanks (on_run (state c.args.run c.args.lines.now c.args.pages.now) r)) (sym c.moved-on.ensures) (passed_ready _ Action.pass_blanks (state c.args.run c.args.lines.now c.args.pages.now) c.requires.ready (good_facts true (state c.args.run c.args.lines.now c.args.pages.now) c.requires.line_is_good)); row_good = c.requires.row_good }
 
 pub returns : goal.returns
 returns c = c.character_event.ensures ∙ ap (λ (r : Run). character_event c.args.row.now (execute c.args.row.now) true 32 (on_run (state c.args.run c.args.lines.now c.args.pages.now) r) c.args.text.now) c.moved-on.ensures ∙ sym (take_event c.args.row.now (state c.args.run c.args.lines.now c.args.pages.now) c.args.text.now c.character_here-b.ensures (sym c.is_printable.ensures ∙ c.if-is_printable.false))
