@@ -3,9 +3,26 @@
 
 ghost use Rattle.std.specs.Prelude.{◌≡◌, length};
 ghost use Rattle.rules.specs.Book.{state};
-ghost use Rattle.begins.specs.Begin.{prepared_by, in_mood_by, may_set_by, lowest_by};
+ghost use Rattle.entry.specs.Before.{before_asking};
+ghost use Rattle.begins.specs.Begin.{asked_as, prepared_by, in_mood_by, may_set_by, lowest_by};
 
-use rules::{Outcome, Run};
+use rules::{EndedCall, Outcome, Refusal, Run};
+
+// The tests before work: the first that fails ends the call.
+pub fn asked(
+    run: Run,
+    text: &[u8],
+    lines: &[u8],
+    pages: &[u8],
+    row: &[u32],
+) -> Result<(), EndedCall>
+    ensures { result ≡ asked_as run (before_asking row.now (length text.now) (state run lines.now pages.now)) }
+{
+    match entry::test_call(run, text, lines, pages, row) {
+        Ok(()) => Ok(()),
+        Err(refusal) => Err(running::refused(run, refusal)),
+    }
+}
 
 // A get or a put: 4 without its right, 5 against a mood that cannot turn; then the mood is turned.
 pub fn prepared(
@@ -18,10 +35,7 @@ pub fn prepared(
 ) -> Outcome
     ensures { result ≡ prepared_by row.now reading (length text.now) (state run lines.now pages.now) }
 {
-    let number = entry::number_asking(run, text, lines, pages, row);
-    if number != 0 {
-        return running::refused(run, number);
-    }
+    asked(run, text, lines, pages, row)?;
     entry::turned(run, reading)
 }
 
@@ -29,31 +43,23 @@ pub fn prepared(
 pub fn in_mood(run: Run, text: &[u8], lines: &[u8], pages: &[u8], row: &[u32]) -> Outcome
     ensures { result ≡ in_mood_by row.now (length text.now) (state run lines.now pages.now) }
 {
-    let number = entry::number_asking(run, text, lines, pages, row);
-    if number != 0 {
-        return running::refused(run, number);
+    asked(run, text, lines, pages, row)?;
+    if run.file.reading || run.file.writing {
+        Ok(run)
+    } else {
+        Err(running::refused(run, Refusal::MoodMissing))
     }
-    if run.file.reading {
-        return running::finish(run);
-    }
-    if run.file.writing {
-        return running::finish(run);
-    }
-    running::refused(run, 5)
 }
 
 // Set: 4 without its right.
 pub fn may_set(run: Run, text: &[u8], lines: &[u8], pages: &[u8], row: &[u32]) -> Outcome
     ensures { result ≡ may_set_by row.now (length text.now) (state run lines.now pages.now) }
 {
-    let number = entry::number_asking(run, text, lines, pages, row);
-    if number != 0 {
-        return running::refused(run, number);
-    }
+    asked(run, text, lines, pages, row)?;
     if run.file.rights.set {
-        running::finish(run)
+        Ok(run)
     } else {
-        running::refused(run, 4)
+        Err(running::refused(run, Refusal::RightMissing))
     }
 }
 
@@ -61,9 +67,6 @@ pub fn may_set(run: Run, text: &[u8], lines: &[u8], pages: &[u8], row: &[u32]) -
 pub fn lowest(run: Run, text: &[u8], lines: &[u8], pages: &[u8], row: &[u32]) -> Outcome
     ensures { result ≡ lowest_by row.now (length text.now) (state run lines.now pages.now) }
 {
-    let number = entry::number_asking(run, text, lines, pages, row);
-    if number != 0 {
-        return running::refused(run, number);
-    }
-    running::refused(run, 9)
+    asked(run, text, lines, pages, row)?;
+    Err(running::refused(run, Refusal::TooLarge))
 }

@@ -1,324 +1,231 @@
-// What the programs share: a line of output composed in a lent buffer, and the words, numbers and bytes of a line of input. Nothing
-// here can fail: what does not fit is left out, and what cannot be read is told apart.
+// What the programs share: bytes written in hexadecimal, and the words of a line of input with the numbers and the bytes that they tell.
 #![tactic(auto)]
 
-ghost use Rattle.std.specs.Prelude.{◌≡◌, ◌≢◌, ℕ, ◌≤◌, ◌<◌, ◌+◌, ◌↔◌, IsTrue, length, slice_index};
+ghost use Rattle.std.specs.Prelude.{◌≡◌, ◌≤◌, ◌+◌, ◌*◌, ◌==◌, [], ◌∷◌, IfSome, IfOk, IsOk, OnOk, OnErr};
+ghost use Rattle.std.specs.Prelude.{length, min, slice_index, count_by, position};
+ghost use Rattle.std.specs.Iterator.{YieldsFirstRef, item_count};
+ghost use Rattle.std.specs.List.{slice_split};
+ghost use Rattle.std.specs.Char.{digit_value};
+ghost use Rattle.console.specs.Words.{words_of};
 
-use std::io;
-use std::io::Write;
+use std::str::FromStr;
+use std::{fmt, io, str};
+
+// A line of input that cannot be read.
+#[derive(Clone, Copy, Debug, PartialEq, Eq)]
+pub struct BadLine;
 
 // ---- output
 
-// One byte more in the output: the new length.
-pub fn push(out: &mut [u8], n: usize, b: u8) -> usize {
-    if n < out.len() {
-        out[n] = b;
-        return n + 1;
-    }
-    n
-}
+// Bytes that are written as pairs of hexadecimal digits; "-" for none.
+#[derive(Clone, Copy)]
+pub struct Hex<'a>(pub &'a [u8]);
 
-// Some bytes more.
-pub fn push_all(out: &mut [u8], n: usize, bytes: &[u8]) -> usize {
-    let mut m = n;
-    let mut i = 0;
-    while i < bytes.len() {
-        m = push(out, m, bytes[i]);
-        i += 1;
-    }
-    m
-}
-
-// A number in decimal, at the end of a lent buffer: where it starts.
-pub fn decimal_digits(value: u64, digits: &mut [u8; 20]) -> usize
-    ensures { result ≤ 20 }
-{
-    let mut rest = value;
-    for i in 0..20usize {
-        let at = 19 - i;
-        digits[at] = 48 + (rest % 10) as u8;
-        rest /= 10;
-        if rest == 0 {
-            return at;
+impl fmt::Display for Hex<'_> {
+    fn fmt<W: fmt::Write>(&self, f: &mut fmt::Formatter<W>) -> fmt::Result {
+        if self.0.is_empty() {
+            return write!(f, "-");
         }
+        for byte in self.0 {
+            write!(f, "{byte:02x}")?;
+        }
+        Ok(())
     }
-    0
 }
 
-// A number in decimal.
-pub fn push_decimal(out: &mut [u8], n: usize, value: u64) -> usize {
-    let mut digits = [0u8; 20];
-    let from = decimal_digits(value, &mut digits);
-    push_all(out, n, &digits[from..])
-}
-
-// A blank and a number.
-pub fn push_field(out: &mut [u8], n: usize, value: usize) -> usize {
-    let m = push(out, n, 32);
-    push_decimal(out, m, value as u64)
-}
-
-// An integer in decimal, with a minus sign where it is below 0.
-pub fn push_integer(out: &mut [u8], n: usize, value: i32) -> usize {
-    if value == -2147483648 {
-        return push_all(out, n, b"-2147483648");
-    }
-    let size = whole::magnitude(value);
-    if whole::is_negative(value) {
-        let m = push(out, n, 45);
-        return push_decimal(out, m, size as u64);
-    }
-    push_decimal(out, n, size as u64)
-}
-
-// A hexadecimal digit.
-pub fn hex_digit(v: u8) -> u8 {
-    if v < 10 {
-        return 48 + v;
-    }
-    if v < 16 {
-        return 87 + v;
-    }
-    63
-}
-
-// Bytes as pairs of hexadecimal digits; "-" for none.
-pub fn push_hex(out: &mut [u8], n: usize, bytes: &[u8]) -> usize {
-    if bytes.len() == 0 {
-        return push(out, n, 45);
-    }
-    let mut m = n;
-    let mut i = 0;
-    while i < bytes.len() {
-        m = push(out, m, hex_digit(bytes[i] >> 4));
-        m = push(out, m, hex_digit(bytes[i] & 15));
-        i += 1;
-    }
-    m
-}
-
-// Writes the first n bytes.
-pub fn write_out<W: Write>(writer: &mut W, out: &[u8], n: usize) -> io::Result<()> {
-    if n <= out.len() {
-        return writer.write_all(&out[0..n]);
-    }
-    Ok(())
-}
-
-// Writes a number in decimal.
-pub fn write_decimal<W: Write>(writer: &mut W, value: u64) -> io::Result<()> {
-    let mut digits = [0u8; 20];
-    let from = decimal_digits(value, &mut digits);
-    writer.write_all(&digits[from..])
+// What was written into a buffer of fixed size since its position was last set to 0.
+pub fn written<const N: usize>(buffer: &io::Cursor<[u8; N]>) -> &[u8]
+    ensures { length result.now ≤ N }
+{
+    let end = N.min(buffer.position() as usize);
+    &buffer.get_ref()[..end]
 }
 
 // ---- input
 
-// The lesser of two numbers.
-pub fn least(a: usize, b: usize) -> usize
-    ensures { (result ≤ a) × (result ≤ b) }
+// Where a byte stands first in a text.
+pub fn find(text: &[u8], byte: u8) -> Option<usize>
+    ensures { result ≡ position (λ x. x == byte) text.now }
 {
-    if a <= b { a } else { b }
-}
-
-// 1 for two bytes that are the same.
-pub fn one_if_same(a: u8, b: u8) -> usize
-    ensures { result ≤ 1 }
-{
-    if a == b { 1 } else { 0 }
-}
-
-// 1 for a blank.
-pub fn one_if_blank(b: u8) -> usize
-    ensures { result ≤ 1 }
-{
-    one_if_same(b, 32)
-}
-
-// Whether three numbers are each at most 1.
-pub fn at_most_one(a: usize, b: usize, c: usize) -> bool {
-    if 1 < a {
-        return false;
-    }
-    if 1 < b { false } else { c <= 1 }
-}
-
-// Whether two texts are the same.
-pub fn same(a: &[u8], b: &[u8]) -> bool
-    ensures { IsTrue result ↔ a.now ≡ b.now }
-{
-    a == b
-}
-
-// Where a byte stands first from an index on, before another; the other where it does not.
-pub fn find(text: &[u8], from: usize, to: usize, b: u8) -> usize
-    requires order { from ≤ to }
-    requires fits { to ≤ length text.now }
-    ensures low { from ≤ result }
-    ensures high { result ≤ to }
-    ensures before { (k : ℕ) → from ≤ k → k < result → slice_index text.now k ≢ b }
-    ensures found { result < to → slice_index text.now result ≡ b }
-{
-    for i in from..to {
-        if text[i] == b {
-            return i;
-        }
-    }
-    to
+    text.iter().position(|x| *x == byte)
 }
 
 // How many words a line has: they are separated by one blank.
 pub fn word_count(line: &[u8]) -> usize
-    ensures { result ≤ length line.now + 1 }
+    ensures { result ≡ count_by (λ x. x == 32) line.now + 1 }
 {
-    let mut count = 0;
-    let mut i = 0;
-    while i < line.len() {
-        count += one_if_blank(line[i]);
-        i += 1;
-    }
-    count + 1
+    line.iter().filter(|x| **x == b' ').count() + 1
 }
 
-// Where the k-th word starts, counted from 0; the line's end where there is none.
-pub fn word_start(line: &[u8], k: usize) -> usize
-    ensures { result ≤ length line.now }
+// A number in decimal, with no plus sign.
+fn read_number<T: FromStr>(word: &[u8]) -> Option<T>
+where
+    T::Err: Drop,
 {
-    let mut left = k;
-    let mut i = 0;
-    while i < line.len() {
-        if left == 0 {
-            return i;
-        }
-        left -= one_if_blank(line[i]);
-        i += 1;
+    if word.starts_with(b"+") {
+        return None;
     }
-    i
-}
-
-// The k-th word of a line, counted from 0; empty where there is none.
-pub fn word<'a>(line: &'a [u8], k: usize) -> &'a [u8] {
-    let from = word_start(line, k);
-    let to = find(line, from, line.len(), 32);
-    &line[from..to]
-}
-
-// The value of a hexadecimal digit of either case; 16 of any other byte.
-pub fn digit_value(b: u8) -> u8
-    ensures { result ≤ 16 }
-{
-    if b < 48 {
-        return 16;
-    }
-    if b <= 57 {
-        return b - 48;
-    }
-    let small = b | 32;
-    if small < 97 {
-        return 16;
-    }
-    if small <= 102 { small - 87 } else { 16 }
-}
-
-// Whether a word is one or more hexadecimal digits.
-pub fn all_hex(word: &[u8]) -> bool {
-    let mut i = 0;
-    while i < word.len() {
-        if 15 < digit_value(word[i]) {
-            return false;
-        }
-        i += 1;
-    }
-    0 < i
-}
-
-// Whether a word is "-" or pairs of hexadecimal digits.
-pub fn is_hex(word: &[u8]) -> bool {
-    if same(word, b"-") {
-        return true;
-    }
-    if word.len() % 2 == 1 {
-        return false;
-    }
-    all_hex(word)
-}
-
-// How many bytes such a word has.
-pub fn hex_count(word: &[u8]) -> usize {
-    word.len() / 2
-}
-
-// The byte of the pair of digits at an index.
-pub fn hex_byte(word: &[u8], i: usize) -> u8 {
-    if word.len() < 2 {
-        return 0;
-    }
-    if word.len() - 2 < i {
-        return 0;
-    }
-    let high = digit_value(word[i]) & 15;
-    let low = digit_value(word[i + 1]) & 15;
-    high * 16 + low
-}
-
-// The bytes of such a word into a lent slice from an index on, as far as it goes.
-pub fn read_hex(word: &[u8], to: &mut [u8], at: usize) {
-    let mut m = at;
-    let mut i = 0;
-    let count = word.len() / 2;
-    while i < count {
-        m = push(to, m, hex_byte(word, 2 * i));
-        i += 1;
-    }
-}
-
-// A number that was read, where it is good.
-#[derive(Clone, Copy)]
-pub struct Decimal {
-    pub good: bool,
-    pub value: usize,
-}
-
-// The value of a decimal digit; 10 of any other byte.
-pub fn decimal_value(b: u8) -> usize
-    ensures { result ≤ 10 }
-{
-    if b < 48 {
-        return 10;
-    }
-    if b <= 57 { (b - 48) as usize } else { 10 }
-}
-
-// No number.
-pub fn no_decimal() -> Decimal
-    ensures { result.value ≡ 0 }
-{
-    Decimal {
-        good: false,
-        value: 0,
-    }
+    str::from_utf8(word).ok()?.parse().ok()
 }
 
 // A decimal number of at most some value: one or more digits.
-pub fn read_decimal(word: &[u8], most: usize) -> Decimal
-    ensures { result.value ≤ most }
+pub fn read_decimal(word: &[u8], most: usize) -> Option<usize>
+    ensures { IfSome result (λ value. value ≤ most) }
 {
-    let limit = least(most, 4294967295);
-    let mut value = 0;
-    let mut i = 0;
-    while i < word.len() {
-        let d = decimal_value(word[i]);
-        if 9 < d {
-            return no_decimal();
+    read_number(word).filter(|value| *value <= most)
+}
+
+// An integer in decimal, with or without a minus sign.
+pub fn read_integer(word: &[u8]) -> Option<i32> {
+    read_number(word)
+}
+
+// The byte of a pair of hexadecimal digits of either case.
+fn read_pair(pair: [u8; 2]) -> Option<u8>
+    ensures { IfSome result (λ byte. byte ≡ digit_value (slice_index pair 0) * 16 + digit_value (slice_index pair 1)) }
+{
+    let high = char::from(pair[0]).to_digit(16)?;
+    let low = char::from(pair[1]).to_digit(16)?;
+    u8::try_from(high * 16 + low).ok()
+}
+
+// Bytes of a line, each of two hexadecimal digits.
+#[derive(Clone, Copy, Debug, PartialEq, Eq)]
+pub struct Pairs<'a>(&'a [[u8; 2]]);
+
+impl<'a> Pairs<'a> {
+    // The bytes that a word tells: pairs of hexadecimal digits, or "-" for none.
+    pub fn read(word: &'a [u8]) -> Option<Pairs<'a>> {
+        if matches!(word, b"-") {
+            return Some(Pairs(&[]));
         }
-        value = value * 10 + d;
-        if limit < value {
-            return no_decimal();
-        }
-        i += 1;
+        let (pairs, odd) = word.as_chunks::<2>();
+        let good = odd.is_empty() && pairs.iter().all(|pair| read_pair(*pair).is_some());
+        (good && !pairs.is_empty()).then_some(Pairs(pairs))
     }
-    Decimal {
-        good: 0 < i,
-        value: value,
+
+    // How many bytes they are.
+    pub fn len(self) -> usize
+        ensures { result ≡ length self.entry.0.now }
+    {
+        self.0.len()
+    }
+
+    // Whether there is none.
+    pub fn is_empty(self) -> bool {
+        self.0.is_empty()
+    }
+
+    // Stores the bytes at the start of a lent slice, as far as it goes: the part that they fill.
+    pub fn store(self, to: &mut [u8]) -> &[u8]
+        ensures { length result.now ≡ min (length self.entry.0.now) (length to.old) }
+    {
+        let bytes = self.0.iter().filter_map(|pair| read_pair(*pair));
+        for (place, byte) in to.iter_mut().zip(bytes) {
+            *place = byte;
+        }
+        let end = self.0.len().min(to.len());
+        &to[..end]
+    }
+}
+
+// The N bytes that a word tells.
+fn read_array<const N: usize>(word: &[u8]) -> Option<[u8; N]> {
+    let pairs = Pairs::read(word)?;
+    let mut bytes = [0; N];
+    pairs.store(&mut bytes);
+    (pairs.len() == N).then_some(bytes)
+}
+
+// The words of a line, from its first on: what is left of the line, if a word is left.
+#[derive(Drop)]
+pub struct Words<'a> {
+    pub rest: Option<&'a [u8]>,
+}
+
+impl<'a> Iterator for Words<'a> {
+    type Item = &'a [u8];
+
+    ghost next_gives = { YieldsFirstRef (λ words. words_of words.rest) };
+
+    ghost remaining = { item_count (λ words. words_of words.rest) };
+
+    fn next(&mut self) -> Option<&'a [u8]> {
+        let rest = self.rest?;
+        match find(rest, b' ') {
+            Some(end) => {
+                self.rest = Some(&rest[end + 1..]);
+                Some(&rest[..end])
+            }
+            None => {
+                self.rest = None;
+                Some(rest)
+            }
+        }
+    }
+}
+
+impl<'a> Words<'a> {
+    // All words of a line.
+    pub fn new(line: &'a [u8]) -> Words<'a>
+        ensures { words_of result.rest ≡ slice_split (λ x. x == 32) line.now }
+    {
+        Words { rest: Some(line) }
+    }
+
+    // The next word.
+    pub fn word(&mut self) -> Result<&'a [u8], BadLine>
+        ensures ok { IfOk result (λ word. words_of self.old.rest ≡ word.now ∷ words_of self.new.rest) }
+        ensures err { OnErr result (words_of self.old.rest ≡ []) }
+    {
+        self.next().ok_or(BadLine)
+    }
+
+    // The next word, a decimal number of at most some value.
+    pub fn number(&mut self, most: usize) -> Result<usize, BadLine>
+        ensures { IfOk result (λ value. value ≤ most) }
+    {
+        read_decimal(self.word()?, most).ok_or(BadLine)
+    }
+
+    // The next word, 1 or 0.
+    pub fn flag(&mut self) -> Result<bool, BadLine> {
+        Ok(self.number(1)? == 1)
+    }
+
+    // The next word, an integer.
+    pub fn integer(&mut self) -> Result<i32, BadLine> {
+        read_integer(self.word()?).ok_or(BadLine)
+    }
+
+    // The next word, N bytes in hexadecimal.
+    pub fn array<const N: usize>(&mut self) -> Result<[u8; N], BadLine> {
+        read_array(self.word()?).ok_or(BadLine)
+    }
+
+    // The next word, any number of bytes in hexadecimal.
+    pub fn pairs(&mut self) -> Result<Pairs<'a>, BadLine> {
+        Pairs::read(self.word()?).ok_or(BadLine)
+    }
+
+    // How many words are left.
+    pub fn count_left(&self) -> usize
+        ensures { result ≡ length (words_of self.now.rest) }
+    {
+        match self.rest {
+            Some(rest) => word_count(rest),
+            None => 0,
+        }
+    }
+
+    // No word is left.
+    pub fn end(&mut self) -> Result<(), BadLine>
+        ensures ok { OnOk result (words_of self.old.rest ≡ []) }
+        ensures err { words_of self.old.rest ≡ [] → IsOk result }
+    {
+        match self.next() {
+            Some(_) => Err(BadLine),
+            None => Ok(()),
+        }
     }
 }

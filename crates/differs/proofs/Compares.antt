@@ -4,73 +4,86 @@ use Prim.Native.Nat.{ℕ, ◌+◌, ◌*◌, ◌/◌, ◌≤◌, ◌<◌}
 use native.Mathlib.Omega.{arith}
 use mathlib.Core.Bool.{Bool, true, false, ◌&&◌}
 use mathlib.Core.List.{List, [], ◌∷◌, ◌++◌, append_assoc}
-use lib.Dec.{T, leb, eqb}
+use lib.Dec.{eqb}
 use lib.ListN.{length, drop, take, length-append, length-drop}
 use lib.Seq.{sets, sets-eq, take_at, drop-append-add, drop-drop}
-use borrow.Author.Tests.{eq-eqb, ne_eqb, le-leb, lt-leb, eqb-true}
+use borrow.Author.Tests.{le-leb}
 use Rattle.rules.specs.declared.File.{File}
 use Rattle.rules.specs.declared.Run.{Run}
 use Rattle.rules.specs.Book.{choose, State, state, run_with, all_fits}
 use Rattle.rules.specs.Calls.{Book, enter}
-use Rattle.entry.specs.Before.{before_work}
+use Rattle.rules.specs.declared.Refusal.{Refusal}
+use Rattle.rules.specs.declared.Refusal.TheVariants.{NotOpen, BadAnswers, BadBook, RightMissing, MoodMissing, OutOfRange, BadCharacter, TooLarge, LineTooShort, ProgramJumped, OutputTooShort, LogicalEndMet, PhysicalEndMet, StringDoesNotFit}
+use Rattle.rules.specs.Step.{refusal_number}
+use Rattle.entry.specs.Before.{Tested, before_work}
 use Rattle.differences.specs.Spans.{Span, spans}
-use Rattle.differences.specs.Compare.{number_before, entries, Answer, answer, listed, compare, compare_count, compared, differ, difference_count}
+use Rattle.differences.specs.Compare.{number_before, entries, answer, listed, compare, compare_count, compared, differ, difference_count}
 use Rattle.differs.specs.declared.Differences.{Differences}
 use Rattle.differs.specs.Tally.{Tally, tally, noted, walked}
+use Rattle.std.specs.Prelude.{Result, Ok, Err}
+use Rattle.views.specs.declared.checked.CheckedBook.{CheckedBook}
+use Rattle.views.specs.Checked.{Checks}
+use Rattle.differs.specs.declared.Books.{Books}
+use Rattle.differs.specs.Books.{both, spans_of, answer_of, listed_or_short, differences_of}
 
 -- ---- the tests of both books
 
-module _ (s : State) (t : List ℕ) (s' : State) (t' : List ℕ) where
-  -- 1, then 3, over the numbers of each book's own tests
-  abbrev both_before : ℕ → ℕ → ℕ
-  both_before n m = choose (eqb n 1) 1 (choose (eqb m 1) 1 (choose (eqb n 0) m n))
+-- 1, then 3, over each book's own tests
+abbrev both_before : Tested → Tested → Tested
+both_before (Ok u) y = y
+both_before (Err n) (Ok v) = Err n
+both_before (Err n) (Err m) = Err (choose (eqb (refusal_number m) 1) NotOpen n)
 
-  both_as : both_before (before_work (length t) s) (before_work (length t') s') ≡ number_before s t s' t'
-  unfolding number_before
-  both_as = by s.run.file.opened s'.run.file.opened (all_fits (length t) s) (all_fits (length t') s')
-    where
-      by : (o o' a a' : Bool) → both_before (choose o (choose a 0 3) 1) (choose o' (choose a' 0 3) 1) ≡ choose (o && o') (choose (a && a') 0 3) 1
-      by true true true true = refl
-      by true true true false = refl
-      by true true false true = refl
-      by true true false false = refl
-      by true false true a' = refl
-      by true false false a' = refl
-      by false o' a a' = refl
+-- the number of a test, or 0
+abbrev number_of : Tested → ℕ
+number_of (Ok u) = 0
+number_of (Err n) = refusal_number n
 
-  module _ {n m : ℕ} (e : n ≡ before_work (length t) s) (e' : m ≡ before_work (length t') s') where
-    both_of : both_before n m ≡ number_before s t s' t'
-    both_of = ap (λ (k : ℕ). both_before k m) e ∙ ap (both_before (before_work (length t) s)) e' ∙ both_as
+both_as : (s : State) (t : List ℕ) (s' : State) (t' : List ℕ) → number_of (both_before (before_work (length t) s) (before_work (length t') s')) ≡ number_before s t s' t'
+unfolding number_before
+both_as s t s' t' = by s.run.file.opened s'.run.file.opened (all_fits (length t) s) (all_fits (length t') s')
+  where
+    by : (o o' a a' : Bool) → number_of (both_before (choose o (choose a (Ok tt) (Err BadBook)) (Err NotOpen)) (choose o' (choose a' (Ok tt) (Err BadBook)) (Err NotOpen))) ≡ choose (o && o') (choose (a && a') 0 3) 1
+    by true true true true = refl
+    by true true true false = refl
+    by true true false true = refl
+    by true true false false = refl
+    by true false true a' = refl
+    by true false false a' = refl
+    by false true a true = refl
+    by false true a false = refl
+    by false false a a' = refl
 
-    pub first_closed : n ≡ 1 → 1 ≡ number_before s t s' t'
-    first_closed h = sym (ap (λ (b : Bool). choose b 1 (choose (eqb m 1) 1 (choose (eqb n 0) m n))) (eq-eqb n 1 h)) ∙ both_of
+no_zero : (n : Refusal) → eqb (refusal_number n) 0 ≡ false
+no_zero NotOpen = refl
+no_zero BadAnswers = refl
+no_zero BadBook = refl
+no_zero RightMissing = refl
+no_zero MoodMissing = refl
+no_zero OutOfRange = refl
+no_zero BadCharacter = refl
+no_zero TooLarge = refl
+no_zero LineTooShort = refl
+no_zero ProgramJumped = refl
+no_zero OutputTooShort = refl
+no_zero LogicalEndMet = refl
+no_zero PhysicalEndMet = refl
+no_zero StringDoesNotFit = refl
 
-    module _ (h : n ≡ 1 → ⊥) where
-      first_open : choose (eqb m 1) 1 (choose (eqb n 0) m n) ≡ number_before s t s' t'
-      first_open = sym (ap (λ (b : Bool). choose b 1 (choose (eqb m 1) 1 (choose (eqb n 0) m n))) (ne_eqb n 1 h)) ∙ both_of
+-- the books that were lent, or the first test that fails
+abbrev BothTested : State → List ℕ → State → List ℕ → Result Books Refusal → Type 0
+BothTested s t s' t' (Ok d) = (0 ≡ number_before s t s' t') × (spans_of d ≡ spans s t s' t')
+BothTested s t s' t' (Err n) = refusal_number n ≡ number_before s t s' t'
 
-      pub second_closed : m ≡ 1 → 1 ≡ number_before s t s' t'
-      second_closed k = sym (ap (λ (b : Bool). choose b 1 (choose (eqb n 0) m n)) (eq-eqb m 1 k)) ∙ first_open
+module _ (r : Run) (t ls ps : List ℕ) (r' : Run) (t' ls' ps' : List ℕ) where
+  both_of : {n m : Tested} → before_work (length t) (state r ls ps) ≡ n → before_work (length t') (state r' ls' ps') ≡ m → number_of (both_before n m) ≡ number_before (state r ls ps) t (state r' ls' ps') t'
+  both_of {n} {m} e e' = ap (λ (k : Tested). number_of (both_before k m)) (sym e) ∙ ap (λ (k : Tested). number_of (both_before (before_work (length t) (state r ls ps)) k)) (sym e') ∙ both_as (state r ls ps) t (state r' ls' ps') t'
 
-      module _ (k : m ≡ 1 → ⊥) where
-        both_open : choose (eqb n 0) m n ≡ number_before s t s' t'
-        both_open = sym (ap (λ (b : Bool). choose b 1 (choose (eqb n 0) m n)) (ne_eqb m 1 k)) ∙ first_open
-
-        pub first_fits : n ≡ 0 → m ≡ number_before s t s' t'
-        first_fits i = sym (ap (λ (b : Bool). choose b m n) (eq-eqb n 0 i)) ∙ both_open
-
-        pub first_breaks : (n ≡ 0 → ⊥) → n ≡ number_before s t s' t'
-        first_breaks i = sym (ap (λ (b : Bool). choose b m n) (ne_eqb n 0 i)) ∙ both_open
-
-  pub both_fit : number_before s t s' t' ≡ 0 → T (all_fits (length t) s) × T (all_fits (length t') s')
-  unfolding number_before
-  both_fit e = by (s.run.file.opened && s'.run.file.opened) (all_fits (length t) s) (all_fits (length t') s') e
-    where
-      by : (o a a' : Bool) → ◌≡◌ {A = ℕ} (choose o (choose (a && a') 0 3) 1) 0 → T a × T a'
-      by true true true h = (tt, tt)
-      by true true false h = absurd (omega arith)
-      by true false a' h = absurd (omega arith)
-      by false a a' h = absurd (omega arith)
+  both_tested : (x y : Result CheckedBook Refusal) → Checks r t ls ps x → Checks r' t' ls' ps' y → BothTested (state r ls ps) t (state r' ls' ps') t' (both x y)
+  both_tested (Ok b) (Ok d) h h' = (both_of h.0 h'.0, rw (h.1, h.2, h.3, h.4, h'.1, h'.2, h'.3, h'.4))
+  both_tested (Ok b) (Err m) h h' = both_of h.0 h'
+  both_tested (Err n) (Ok d) h h' = both_of h h'.0
+  both_tested (Err n) (Err m) h h' = both_of h h'
 
 -- ---- the count and the list
 
@@ -122,6 +135,23 @@ all_listed ss list h e =
 
 -- ---- the ways of a comparison
 
+module _ (ss : List Span) (list : List ℕ) {n : ℕ} {l : List ℕ} (e : tally n l ≡ walked ss (tally 0 list)) where
+  pub all_counted : n ≡ length ss
+  all_counted = ap (λ (t : Tally). t.count) e ∙ walked_count ss (tally 0 list) ∙ omega arith
+
+  pub list_done : length ss ≤ length list / 4 → answer 0 n l ≡ listed_or_short ss list
+  list_done h = let q = all_listed ss list h e in rw (q.0, q.1, le-leb (length ss) (length list / 4) h)
+
+-- a count of the spans of both books
+abbrev pub counted : Result Books Refusal → Result ℕ Refusal
+counted (Ok d) = Ok (length (spans_of d))
+counted (Err n) = Err n
+
+-- a list of the spans of both books
+abbrev pub Lists : Result Books Refusal → Result ℕ Refusal → List ℕ → List ℕ → Type 0
+Lists (Ok d) z l list = answer_of z l ≡ listed_or_short (spans_of d) list
+Lists (Err n) z l list = (z ≡ Err n) × (l ≡ list)
+
 module _ (s : State) (t : List ℕ) (s' : State) (t' : List ℕ) where
   abbrev number : ℕ
   number = number_before s t s' t'
@@ -129,72 +159,35 @@ module _ (s : State) (t : List ℕ) (s' : State) (t' : List ℕ) where
   abbrev all : List Span
   all = spans s t s' t'
 
-  pub count_refused : {n : ℕ} → n ≡ number → (n ≡ 0 → ⊥) → answer n 0 [] ≡ compare_count s t s' t'
+  count_as : (z : Result Books Refusal) → BothTested s t s' t' z → answer_of (counted z) [] ≡ compare_count s t s' t'
   unfolding compare_count
-  count_refused {n} e z = rw e (sym (ap (λ (x : Bool). choose x (answer 0 (length all) []) (answer number 0 [])) (ne_eqb number 0 (λ i. z (e ∙ i)))))
+  count_as (Ok d) h = rw (h.1, sym h.0)
+  count_as (Err n) h = rw (sym h, no_zero n)
 
-  pub count_done : (list : List ℕ) {n : ℕ} {k : ℕ} {l : List ℕ} → n ≡ number → n ≡ 0 → tally k l ≡ walked all (tally 0 list) → answer 0 k [] ≡ compare_count s t s' t'
-  unfolding compare_count
-  count_done list {n} {k} e z g =
-      let h : k ≡ length all = ap (λ (u : Tally). u.count) g ∙ walked_count all (tally 0 list) ∙ omega arith in
-      rw h (sym (ap (λ (x : Bool). choose x (answer 0 (length all) []) (answer number 0 [])) (eq-eqb number 0 (sym e ∙ z))))
+  list_as : (z : Result Books Refusal) → BothTested s t s' t' z → (y : Result ℕ Refusal) (l list : List ℕ) → Lists z y l list → answer_of y l ≡ compare s t s' t' list
+  unfolding compare
+  list_as (Ok d) h y l list e = e ∙ rw (h.1, sym h.0)
+  list_as (Err n) h y l list e = rw (e.0, e.1, sym h, no_zero n)
 
-  module _ {n k : ℕ} (e : answer n k [] ≡ compare_count s t s' t') where
-    counted_as : (x : Bool) → eqb number 0 ≡ x → answer n k [] ≡ choose x (answer 0 (length all) []) (answer number 0 [])
-    unfolding compare_count
-    counted_as x h = e ∙ ap (λ (y : Bool). choose y (answer 0 (length all) []) (answer number 0 [])) h
+-- ---- the calls
 
-    pub list_refused : (list : List ℕ) → (n ≡ 0 → ⊥) → answer n k list ≡ compare s t s' t' list
-    unfolding compare
-    list_refused list z = by (eqb number 0) refl
-      where
-        by : (x : Bool) → eqb number 0 ≡ x → answer n k list ≡ choose x (choose (leb (length all) (length list / 4)) (answer 0 (length all) (listed all list)) (answer 12 0 list)) (answer number 0 list)
-        by true h = absurd (z (ap (λ (r : Answer). r.number) (counted_as true h)))
-        by false h = ap (λ (r : Answer). answer r.number r.count list) (counted_as false h)
-
-    module _ (z : n ≡ 0) where
-      none_refused : number ≡ 0
-      none_refused = by (eqb number 0) refl
-        where
-          by : (x : Bool) → eqb number 0 ≡ x → number ≡ 0
-          by true h = eqb-true number 0 h
-          by false h = sym (ap (λ (r : Answer). r.number) (counted_as false h)) ∙ z
-
-      counted_all : k ≡ length all
-      counted_all = ap (λ (r : Answer). r.count) (counted_as true (eq-eqb number 0 none_refused))
-
-      pub counted_fit : T (all_fits (length t) s) × T (all_fits (length t') s')
-      counted_fit = both_fit s t s' t' none_refused
-
-      compare_as : (list : List ℕ) (x : Bool) → leb (length all) (length list / 4) ≡ x → choose x (answer 0 (length all) (listed all list)) (answer 12 0 list) ≡ compare s t s' t' list
-      unfolding compare
-      compare_as list x h =
-          sym (ap (λ (y : Bool). choose y (choose (leb (length all) (length list / 4)) (answer 0 (length all) (listed all list)) (answer 12 0 list)) (answer number 0 list)) (eq-eqb number 0 none_refused)
-          ∙ ap (λ (y : Bool). choose y (answer 0 (length all) (listed all list)) (answer 12 0 list)) h)
-
-      pub list_short : (list : List ℕ) → length list / 4 < k → answer 12 0 list ≡ compare s t s' t' list
-      list_short list h = compare_as list false (lt-leb (length all) (length list / 4) (omega (arith, counted_all)))
-
-      pub list_done : (list : List ℕ) → k ≤ length list / 4 → {m : ℕ} {l : List ℕ} → tally m l ≡ walked all (tally 0 list) → answer 0 m l ≡ compare s t s' t' list
-      list_done list h {m} {l} g =
-          let room : length all ≤ length list / 4 = omega (arith, counted_all) in
-          let q = all_listed all list room g in
-          ap (λ (i : ℕ). answer 0 i l) q.0 ∙ ap (λ (xs : List ℕ). answer 0 (length all) xs) q.1 ∙ compare_as list true (le-leb (length all) (length list / 4) room)
-
--- ---- the calls, from the running calls of the code
+-- an answer in the code's struct
+answer_as : {d : Differences} (z : Result ℕ Refusal) (l : List ℕ) → d ≡ differences_of z → answer d.number d.count l ≡ answer_of z l
+answer_as (Ok n) l e = rw e
+answer_as (Err n) l e = rw e
 
 module _ (f : File) (b : Book) (f' : File) (b' : Book) {r r' : Run} (e : r ≡ run_with f b.end 0 0) (e' : r' ≡ run_with f' b'.end 0 0) where
   entered : {A : Type 0} (g : State → State → A) → g (state r b.lines b.pages) (state r' b'.lines b'.pages) ≡ g (enter f b) (enter f' b')
   entered g = ap (λ (x : Run). g (state x b.lines b.pages) (state r' b'.lines b'.pages)) e ∙ ap (λ (x : Run). g (enter f b) (state x b'.lines b'.pages)) e'
 
-  pub differ_call : (list : List ℕ) {a : Answer} → a ≡ compare (state r b.lines b.pages) b.text (state r' b'.lines b'.pages) b'.text list → compared b b' a ≡ differ f b f' b' list
-  unfolding differ
-  differ_call list h = ap (compared b b') (h ∙ entered (λ (x y : State). compare x b.text y b'.text list))
+  module _ (x y : Result CheckedBook Refusal) (h : Checks r b.text b.lines b.pages x) (h' : Checks r' b'.text b'.lines b'.pages y) where
+    tested : BothTested (state r b.lines b.pages) b.text (state r' b'.lines b'.pages) b'.text (both x y)
+    tested = both_tested r b.text b.lines b.pages r' b'.text b'.lines b'.pages x y h h'
 
-  pub count_call : {a : Answer} → a ≡ compare_count (state r b.lines b.pages) b.text (state r' b'.lines b'.pages) b'.text → compared b b' a ≡ difference_count f b f' b'
-  unfolding difference_count
-  count_call h = ap (compared b b') (h ∙ entered (λ (x y : State). compare_count x b.text y b'.text))
+    pub differ_call : {d : Differences} (z : Result ℕ Refusal) (l list : List ℕ) → d ≡ differences_of z → Lists (both x y) z l list → compared b b' (answer d.number d.count l) ≡ differ f b f' b' list
+    unfolding differ
+    differ_call z l list i k = ap (compared b b') (answer_as z l i ∙ list_as (state r b.lines b.pages) b.text (state r' b'.lines b'.pages) b'.text (both x y) tested z l list k ∙ entered (λ (p q : State). compare p b.text q b'.text list))
 
--- an answer in the code's struct
-pub answer_as : {d : Differences} {n k : ℕ} (list : List ℕ) {a : Answer} → d ≡ record { number = n; count = k } → answer n k list ≡ a → answer d.number d.count list ≡ a
-answer_as list e g = ap (λ (x : Differences). answer x.number x.count list) e ∙ g
+    pub count_call : {d : Differences} → d ≡ differences_of (counted (both x y)) → compared b b' (answer d.number d.count []) ≡ difference_count f b f' b'
+    unfolding difference_count
+    count_call i = ap (compared b b') (answer_as (counted (both x y)) [] i ∙ count_as (state r b.lines b.pages) b.text (state r' b'.lines b'.pages) b'.text (both x y) tested ∙ entered (λ (p q : State). compare_count p b.text q b'.text))

@@ -3,135 +3,108 @@ use mathlib.Core.Path.{◌≡◌, refl, sym, ap, subst, ◌∙◌}
 use Prim.Native.Nat.{ℕ, ◌+◌, ◌-◌, ◌≤◌, ◌<◌, max}
 use native.Mathlib.Omega.{arith}
 use mathlib.Core.Bool.{Bool, true, false}
-use mathlib.Core.List.{List}
-use lib.Dec.{T}
-use lib.ListN.{length, take, drop, length-drop}
-use lib.Seq.{length-take-le}
-use Rattle.rules.specs.Book.{choose, place, character_index, State, shape_of, all_fits}
-use Rattle.rules.specs.Calls.{shown, shown_length}
-use Rattle.laws.proofs.Entry.{fits_facts}
-use Rattle.views.specs.declared.Span.{Span}
-use Rattle.views.specs.Spans.{span, no_span, line_span}
+use mathlib.Core.List.{List, [], ◌∷◌}
+use lib.ListN.{length, take, drop}
+use Rattle.std.specs.Prelude.{Some, None}
+use Rattle.rules.specs.Book.{choose, State}
+use Rattle.rules.specs.Calls.{shown}
 use Rattle.laws.proofs.Shown.{shown_in_text, shown-length_le}
+use Rattle.views.specs.declared.Span.{Span}
+use Rattle.views.specs.declared.checked.CheckedBook.{CheckedBook}
+use Rattle.views.specs.Checked.{state_of}
+use Rattle.views.specs.Spans.{line_span, line_or_none}
+use Rattle.views.proofs.Shown.{checked_facts}
 use Rattle.differences.specs.Spans as differences
 use Rattle.differences.specs.Spans.{Line, hidden, showing, shown_text, line_at, place_differs, runs, line_spans, page_spans, spans}
-use Rattle.differs.specs.Tally.{Tally, noted, walked, Noted, line_or_none}
+use Rattle.differs.specs.declared.Books.{Books}
+use Rattle.differs.specs.Tally.{walked, Noted}
+use Rattle.differs.specs.declared.Tally as lent
+use Rattle.differs.specs.Books.{line_spans_of, page_spans_of, spans_of}
 use Rattle.differs.proofs.Walks.{Along, along_last}
 
 -- ---- a line's place in the text
 
-pub part_as : (from count : ℕ) (t : List ℕ) → take (from + count - from) (drop from t) ≡ take count (drop from t)
+part_as : (from count : ℕ) (t : List ℕ) → take (from + count - from) (drop from t) ≡ take count (drop from t)
 part_as from count t = let e : from + count - from ≡ count = omega arith in ap (λ (n : ℕ). take n (drop from t)) e
 
-module _ (p l : ℕ) (s : State) where
-  pub none_shown : shown p l s ≡ false → no_span 6 ≡ line_or_none p l s
-  none_shown e = rw e
+none_shown : (p l : ℕ) (s : State) → line_or_none p l s ≡ None → shown p l s ≡ false
+none_shown p l s e = by (shown p l s) e
+  where
+    by : (b : Bool) → choose b (Some (line_span p l s)) None ≡ None → b ≡ false
+    by true f = cc
+    by false f = refl
 
-  pub line_shown : shown p l s ≡ true → {from count : ℕ} → from ≡ character_index (shape_of s) (place p l 1) → count ≡ shown_length p l s → span 0 from count ≡ line_or_none p l s
-  line_shown e {from} {count} f g = rw (f, g, e)
+some_shown : (p l : ℕ) (s : State) {x : Span} → line_or_none p l s ≡ Some x → (shown p l s ≡ true) × (x ≡ line_span p l s)
+some_shown p l s {x} e = by (shown p l s) e
+  where
+    by : (b : Bool) → choose b (Some (line_span p l s)) None ≡ Some x → (b ≡ true) × (x ≡ line_span p l s)
+    by true f = (refl, cc)
+    by false f = cc
 
-module _ (p l : ℕ) (s : State) (t : List ℕ) {a : Span} (e : a ≡ line_or_none p l s) where
-  pub line_hidden : (a.number ≡ 0 → ⊥) → line_at p l s t ≡ hidden
+module _ (p l : ℕ) (b : CheckedBook) where
+  abbrev line_here : Line
+  line_here = line_at p l (state_of b) b.text.now
+
+  pub line_hidden : line_or_none p l (state_of b) ≡ None → hidden ≡ line_here
   unfolding line_at
-  line_hidden z = by (shown p l s) refl
-    where
-      by : (b : Bool) → shown p l s ≡ b → choose (shown p l s) (showing (shown_text p l s t)) hidden ≡ hidden
-      by true f = absurd (z (ap (λ (x : Span). x.number) (e ∙ ap (λ (b : Bool). choose b (line_span p l s) (no_span 6)) f)))
-      by false f = rw f
+  line_hidden e = rw (none_shown p l (state_of b) e)
 
-  module _ (z : a.number ≡ 0) where
-    is_shown : shown p l s ≡ true
-    is_shown = by (shown p l s) refl
-      where
-        by : (b : Bool) → shown p l s ≡ b → b ≡ true
-        by true f = refl
-        by false f = let o : ◌≡◌ {A = ℕ} 6 0 = sym (ap (λ (x : Span). x.number) (e ∙ ap (λ (b : Bool). choose b (line_span p l s) (no_span 6)) f)) ∙ z in absurd (omega arith)
+  module _ {x : Span} (e : line_or_none p l (state_of b) ≡ Some x) where
+    pub line_in : (x.from + x.count ≤ length b.text.now) × (length b.text.now ≤ 65536) × (x.count ≤ 255)
+    line_in =
+        let s = state_of b in
+        let n = length b.text.now in
+        let f = checked_facts b in
+        let o = some_shown p l s e in
+        subst (λ (y : Span). (y.from + y.count ≤ n) × (n ≤ 65536) × (y.count ≤ 255)) (sym o.1)
+        (shown_in_text p l n s f o.0, omega (arith, f.sizes.text, f.legal_shape.all_characters), omega (arith, shown-length_le p l n s f o.0, f.valid.characters_high))
 
-    is_line : a ≡ line_span p l s
-    is_line = e ∙ ap (λ (b : Bool). choose b (line_span p l s) (no_span 6)) is_shown
-
-    pub line_showing : line_at p l s t ≡ showing (take a.count (drop a.from t))
+    pub line_showing : showing (take (x.from + x.count - x.from) (drop x.from b.text.now)) ≡ line_here
     unfolding line_at shown_text
-    line_showing = ap (λ (b : Bool). choose b (showing (take (shown_length p l s) (drop (character_index (shape_of s) (place p l 1)) t))) hidden) is_shown
-        ∙ sym (ap (λ (x : Span). showing (take x.count (drop x.from t))) is_line)
-
-    module _ (q : T (all_fits (length t) s)) where
-      pub line_in : a.from + a.count ≤ length t
-      line_in = subst (λ (x : Span). x.from + x.count ≤ length t) (sym is_line) (shown_in_text p l (length t) s (fits_facts (length t) s q) is_shown)
-
-      pub line_short : a.count ≤ 255
-      line_short =
-          let f = fits_facts (length t) s q in
-          let h : a.count ≡ shown_length p l s = ap (λ (x : Span). x.count) is_line in
-          omega (arith, shown-length_le p l (length t) s f is_shown, f.valid.characters_high, h)
-
-      pub line_length_lem : length (take a.count (drop a.from t)) ≡ a.count
-      line_length_lem = length-take-le a.count (drop a.from t) (simp length-drop (omega (arith, line_in)))
-
-      pub line_small : a.from + a.count ≤ 65536
-      line_small = let f = fits_facts (length t) s q in omega (arith, line_in, f.sizes.text, f.legal_shape.all_characters)
-
-      -- the part that the code cuts out
-      module _ {xs : List ℕ} (c : xs ≡ take a.count (drop a.from t)) where
-        pub part_showing : line_at p l s t ≡ showing xs
-        part_showing = line_showing ∙ ap showing (sym c)
-
-        pub part_short : length xs ≤ 255
-        part_short = omega (arith, ap length c, line_length_lem, line_short)
+    line_showing =
+        let o = some_shown p l (state_of b) e in
+        ap showing (part_as x.from x.count b.text.now) ∙ ap (λ (y : Span). showing (take y.count (drop y.from b.text.now))) o.1
+        ∙ sym (ap (λ (c : Bool). choose c (showing (shown_text p l (state_of b) b.text.now)) hidden) o.0)
 
 -- ---- the spans of a line
 
-noted_few : (s : differences.Span) (t : Tally) {u : Tally} → u ≡ noted s t → u.count ≤ t.count + 255
-unfolding noted
-noted_few s t e = omega (arith, ap (λ (x : Tally). x.count) e)
-
-one_as : (p l : ℕ) (t : Tally) {u : Tally} {n : ℕ} (xs : List ℕ) → u ≡ noted (differences.span p l 1 n) t → length xs ≡ n → u ≡ noted (differences.span p l 1 (length xs)) t
-one_as p l t xs g h = g ∙ ap (λ (m : ℕ). noted (differences.span p l 1 m) t) (sym h)
-
-module _ (p l : ℕ) {x y : Line} (t : Tally) where
-  pub none_noted : x ≡ hidden → y ≡ hidden → Noted 255 (line_spans p l x y) t t
+module _ (p l : ℕ) {x y : Line} (t : lent.Tally) where
+  pub none_noted : hidden ≡ x → hidden ≡ y → Noted 255 (line_spans p l x y) t t
   unfolding line_spans walked
-  none_noted e f = record { all = rw (e, f); few = omega arith }
+  none_noted e f = record { same_list = refl; all = rw (← e, ← f); few = omega arith }
 
-  module _ {u : Tally} {n : ℕ} (g : u ≡ noted (differences.span p l 1 n) t) (xs : List ℕ) (h : length xs ≡ n) where
-    pub first_noted : x ≡ showing xs → y ≡ hidden → Noted 255 (line_spans p l x y) t u
-    unfolding line_spans walked
-    first_noted e f = record { all = rw (e, f) (one_as p l t xs g h); few = noted_few (differences.span p l 1 n) t g }
+  module _ {u : lent.Tally} (xs : List ℕ) (g : Noted 1 (differences.span p l 1 (length xs) ∷ []) t u) where
+    pub first_noted : showing xs ≡ x → hidden ≡ y → Noted 255 (line_spans p l x y) t u
+    unfolding line_spans
+    first_noted e f = record { same_list = g.same_list; all = rw (← e, ← f) g.all; few = omega (arith, g.few) }
 
-    pub second_noted : x ≡ hidden → y ≡ showing xs → Noted 255 (line_spans p l x y) t u
-    unfolding line_spans walked
-    second_noted e f = record { all = rw (e, f) (one_as p l t xs g h); few = noted_few (differences.span p l 1 n) t g }
+    pub second_noted : hidden ≡ x → showing xs ≡ y → Noted 255 (line_spans p l x y) t u
+    unfolding line_spans
+    second_noted e f = record { same_list = g.same_list; all = rw (← e, ← f) g.all; few = omega (arith, g.few) }
 
-  pub both_noted : {u : Tally} {xs ys : List ℕ} → x ≡ showing xs → y ≡ showing ys → Noted 255 (runs p l (place_differs xs ys) 1 (max (length xs) (length ys))) t u → Noted 255 (line_spans p l x y) t u
+  pub both_noted : {u : lent.Tally} {xs ys : List ℕ} → showing xs ≡ x → showing ys ≡ y → Noted 255 (runs p l (place_differs xs ys) 1 (max (length xs) (length ys))) t u → Noted 255 (line_spans p l x y) t u
   unfolding line_spans
-  both_noted e f g = record { all = rw (e, f) g.all; few = g.few }
+  both_noted e f g = record { same_list = g.same_list; all = rw (← e, ← f) g.all; few = g.few }
 
 -- ---- the lines of a page, and the pages
 
-module _ (s : State) (t : List ℕ) (s' : State) (t' : List ℕ) where
-  abbrev pub spans_of_line : ℕ → ℕ → List differences.Span
-  spans_of_line p l = line_spans p l (line_at p l s t) (line_at p l s' t')
-
+module _ (b : Books) where
   abbrev pub most_lines : ℕ
-  most_lines = max (shape_of s).lines (shape_of s').lines
+  most_lines = max b.first.run.file.shape.lines b.second.run.file.shape.lines
 
   abbrev pub most_pages : ℕ
-  most_pages = max (shape_of s).pages (shape_of s').pages
+  most_pages = max b.first.run.file.shape.pages b.second.run.file.shape.pages
 
-  abbrev pub spans_of_page : ℕ → List differences.Span
-  spans_of_page p = page_spans p s t s' t'
+  pub most : (most_lines ≤ 255) × (most_pages ≤ 255)
+  most =
+      let f = (checked_facts b.first).valid in
+      let g = (checked_facts b.second).valid in
+      (omega (arith, f.lines_high, g.lines_high), omega (arith, f.pages_high, g.pages_high))
 
-  pub page_noted : (p : ℕ) {a : ℕ} {u v : Tally} → most_lines < a → a ≤ 256 → Along (spans_of_line p) most_lines 255 u a v → Noted 65025 (spans_of_page p) u v
+  pub page_noted : (p : ℕ) {a : ℕ} {u v : lent.Tally} → most_lines < a → Along (line_spans_of b p) most_lines 255 u a v → Noted 65025 (page_spans_of b p) u v
   unfolding page_spans
-  page_noted p h k m = record { all = along_last (spans_of_line p) most_lines 255 h m; few = omega (arith, m.few) }
+  page_noted p h m = record { same_list = m.same_list; all = along_last (line_spans_of b p) most_lines 255 h m; few = omega (arith, m.few, m.high, most.0) }
 
-  pub book_noted : {a : ℕ} {u v : Tally} → most_pages < a → Along spans_of_page most_pages 65025 u a v → v ≡ walked (spans s t s' t') u
+  pub book_noted : {a : ℕ} {u v : lent.Tally} → most_pages < a → Along (page_spans_of b) most_pages 65025 u a v → Noted 16581375 (spans_of b) u v
   unfolding spans
-  book_noted h m = along_last spans_of_page most_pages 65025 h m
-
-  module _ (q : T (all_fits (length t) s)) (q' : T (all_fits (length t') s')) where
-    pub most_lines_lem : most_lines ≤ 255
-    most_lines_lem = omega (arith, (fits_facts (length t) s q).valid.lines_high, (fits_facts (length t') s' q').valid.lines_high)
-
-    pub most_pages_lem : most_pages ≤ 255
-    most_pages_lem = omega (arith, (fits_facts (length t) s q).valid.pages_high, (fits_facts (length t') s' q').valid.pages_high)
+  book_noted h m = record { same_list = m.same_list; all = along_last (page_spans_of b) most_pages 65025 h m; few = omega (arith, m.few, m.high, most.1) }

@@ -1,11 +1,10 @@
 -- How the code comes by the list: span by span, each counted, and written where the lent list has room for it.
-use Rattle.std.specs.Prelude.{ℕ, ◌+◌, ◌*◌, ◌-◌, ◌≤◌, ◌<◌, ◌≡◌, Bool, true, false, List, [], ◌∷◌, leb, length}
+use Rattle.std.specs.Prelude.{ℕ, ◌+◌, ◌*◌, ◌≤◌, ◌≡◌, Bool, true, false, List, [], ◌∷◌, Option, Some, None, leb, length}
 use Rattle.std.proofs.lemmas.List.Edits.{sets}
-use Rattle.rules.specs.Book.{choose, State}
-use Rattle.rules.specs.Calls.{shown}
-use Rattle.views.specs.declared.Span as shown_span
-use Rattle.views.specs.Spans.{line_span, no_span}
-use Rattle.differences.specs.Spans.{Span, runs}
+use Rattle.std.specs.Borrow.{Bor}
+use Rattle.rules.specs.Book.{choose}
+use Rattle.differs.specs.declared.Tally as lent
+use Rattle.differences.specs.Spans.{Line, hidden, showing, Span}
 
 -- the spans counted so far, and the list
 pub record Tally : Type 0 where
@@ -14,6 +13,10 @@ pub record Tally : Type 0 where
 
 abbrev pub tally : ℕ → List ℕ → Tally
 tally n list = record { count = n; list = list }
+
+-- the same of the code's struct
+abbrev pub tally_of : lent.Tally → Tally
+tally_of t = tally t.count t.list.now
 
 -- one span more
 unfoldable pub noted : Span → Tally → Tally
@@ -38,18 +41,13 @@ pub record Stretch (at : ℕ → Bool) (first last : ℕ) : Type 0 where
   pub inside : (c : ℕ) → first ≤ c → c ≤ last → at c ≡ true
   pub after : at (last + 1) ≡ false
 
--- a step along a line whose last place is limit, from place c on to a later one
-pub record Stepped (p l : ℕ) (at : ℕ → Bool) (limit c : ℕ) (t : Tally) (next : ℕ) (t' : Tally) : Type 0 where
-  pub on : c < next
-  pub inside : next ≤ limit + 1
-  pub few : t'.count + c ≤ t.count + next
-  pub same : walked (runs p l at c (limit + 1 - c)) t ≡ walked (runs p l at next (limit + 1 - next)) t'
-
--- the spans ss were noted, at most `most` of them
-pub record Noted (most : ℕ) (ss : List Span) (t t' : Tally) : Type 0 where
-  pub all : t' ≡ walked ss t
+-- the spans ss were noted, at most `most` of them, in the list that is lent
+pub record Noted (most : ℕ) (ss : List Span) (t t' : lent.Tally) : Type 0 where
+  pub same_list : t'.list.ghost_name ≡ t.list.ghost_name
+  pub all : tally_of t' ≡ walked ss (tally_of t)
   pub few : t'.count ≤ t.count + most
 
--- where a line lies, or the line view's refusal of one that is not shown
-abbrev pub line_or_none : ℕ → ℕ → State → shown_span.Span
-line_or_none p l s = choose (shown p l s) (line_span p l s) (no_span 6)
+-- a line as the code hands it back
+abbrev pub line_of : Option (Bor (List ℕ)) → Line
+line_of None = hidden
+line_of (Some xs) = showing xs.now

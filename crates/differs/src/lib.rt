@@ -1,309 +1,188 @@
 // Where two books differ: the spans of the shown texts, counted and listed. Each call answers every record, book and list.
 #![tactic(auto)]
 
-ghost use Rattle.std.specs.Prelude.{◌≡◌, true, [], ◌+◌, ◌≤◌, ◌^◌, max, T, length, take, drop};
-ghost use Rattle.rules.specs.Book.{state, all_fits};
+ghost use Rattle.std.specs.Prelude.{◌≡◌, true, [], ◌∷◌, ◌+◌, ◌≤◌, ◌^◌, max, length, IfSome};
 ghost use Rattle.rules.specs.Calls.{book};
-ghost use Rattle.differences.specs.Spans.{place_differs, span, runs, line_at, line_spans, page_spans, spans};
-ghost use Rattle.differences.specs.Compare.{number_before, answer, compare, compare_count, compared, differ, difference_count};
-ghost use Rattle.differs.specs.Tally.{tally, noted, walked, Bytes, Stretch, Stepped, Noted, line_or_none};
+ghost use Rattle.views.specs.Checked.{state_of};
+ghost use Rattle.differences.specs.Spans.{place_differs, span, runs, line_at};
+ghost use Rattle.differences.specs.Compare.{answer, compared, differ, difference_count};
+ghost use Rattle.differs.specs.Tally.{tally, walked, Bytes, Stretch, Noted, line_of};
+ghost use Rattle.differs.specs.Books.{both, line_spans_of, page_spans_of, spans_of, answer_of, listed_or_short, differences_of};
 
-use rules::{File, Position, Run};
-use views::Span;
-
-// The larger of two numbers.
-pub fn larger(a: usize, b: usize) -> usize
-    ensures { result ≡ max a b }
-{
-    if a < b { b } else { a }
-}
+use rules::{File, Position, Refusal};
+use views::CheckedBook;
 
 // "A place differs when the characters do, or when only one book shows one there."
 pub fn differs_at(xs: &[u8], ys: &[u8], place: usize) -> bool
     requires { 1 ≤ place }
     ensures { result ≡ place_differs xs.now ys.now place }
 {
-    if xs.len() < place {
-        return place <= ys.len();
-    }
-    if ys.len() < place {
-        return true;
-    }
-    let i = place - 1;
-    xs[i] != ys[i]
+    xs.get(place - 1) != ys.get(place - 1)
 }
 
 // The last place of the run of differing places that begins at one.
 pub fn run_last(xs: &[u8], ys: &[u8], first: usize) -> usize
     requires le_first { (1 ≤ first) × (length xs.now ≤ 255) × (length ys.now ≤ 255) }
     requires first_differs { place_differs xs.now ys.now first ≡ true }
-    ensures { Stretch (place_differs xs.now ys.now) first result }
+    ensures run { Stretch (place_differs xs.now ys.now) first result }
+    ensures in_line { result ≤ max (length xs.now) (length ys.now) }
 {
-    let mut last = first;
-    while differs_at(xs, ys, last + 1) {
-        last += 1;
-    }
-    last
+    let limit = xs.len().max(ys.len());
+    let next = (first + 1..limit + 1)
+        .find(|place| !differs_at(xs, ys, *place))
+        .unwrap_or(limit + 1);
+    next - 1
 }
 
-// One span more: counted, and written where the list has room for it.
-pub fn note(
-    list: &mut [u8],
-    count: usize,
-    page: usize,
-    line: usize,
-    first: usize,
-    last: usize,
-) -> usize
-    requires count_bound { count ≤ 2 ^ 30 }
-    requires bytes { Bytes (span page line first last) }
-    ensures { tally result list.new ≡ noted (span page line first last) (tally count list.old) }
-{
-    let at = count * 4;
-    if list.len() < at + 4 {
-        return count + 1;
-    }
-    stores::store_byte(list, at, page as u8);
-    stores::store_byte(list, at + 1, line as u8);
-    stores::store_byte(list, at + 2, first as u8);
-    stores::store_byte(list, at + 3, last as u8);
-    count + 1
-}
-
-// The spans counted so far, and the place to go on from.
-#[derive(Clone, Copy)]
-pub struct Progress {
+// The spans counted so far, and the lent list with those that it has room for.
+#[derive(Drop)]
+pub struct Tally<'a> {
+    pub list: &'a mut [u8],
     pub count: usize,
-    pub next: usize,
 }
 
-// One step along a line: past a place that agrees, or past a run of places that differ, which is noted.
-pub fn step(
-    list: &mut [u8],
-    count: usize,
-    page: usize,
-    line: usize,
-    xs: &[u8],
-    ys: &[u8],
-    place: usize,
-) -> Progress
-    requires le_place { (1 ≤ place) × (place ≤ max (length xs.now) (length ys.now)) }
-    requires xs_len_bound { (length xs.now ≤ 255) × (length ys.now ≤ 255) }
-    requires count_bound { (count ≤ 2 ^ 30) × (page ≤ 255) × (line ≤ 255) }
-    ensures { Stepped page line (place_differs xs.now ys.now) (max (length xs.now) (length ys.now)) place (tally count list.old) result.next (tally result.count list.new) }
-{
-    if !differs_at(xs, ys, place) {
-        return Progress {
-            count: count,
-            next: place + 1,
-        };
-    }
-    let last = run_last(xs, ys, place);
-    let more = note(list, count, page, line, place, last);
-    Progress {
-        count: more,
-        next: last + 1,
-    }
-}
-
-// The spans of a line that both books show.
-pub fn note_runs(
-    list: &mut [u8],
-    count: usize,
-    page: usize,
-    line: usize,
-    xs: &[u8],
-    ys: &[u8],
-) -> usize
-    requires xs_len_bound { (length xs.now ≤ 255) × (length ys.now ≤ 255) }
-    requires count_bound { (count ≤ 2 ^ 29) × (page ≤ 255) × (line ≤ 255) }
-    ensures { Noted 255 (runs page line (place_differs xs.now ys.now) 1 (max (length xs.now) (length ys.now))) (tally count list.old) (tally result list.new) }
-{
-    let limit = larger(xs.len(), ys.len());
-    let mut n = count;
-    let mut place = 1;
-    while place <= limit {
-        let on = step(list, n, page, line, xs, ys, place);
-        n = on.count;
-        place = on.next;
-    }
-    n
-}
-
-// Where a line's shown characters lie in the text, with the line view's refusal where it is not shown.
-pub fn line_span(
-    run: Run,
-    page: usize,
-    line: usize,
-    text: &[u8],
-    lines: &[u8],
-    pages: &[u8],
-) -> Span
-    requires { T (all_fits (length text.now) (state run lines.now pages.now)) }
-    ensures { result ≡ line_or_none page line (state run lines.now pages.now) }
-{
-    let shape = run.file.shape;
-    if !views::is_shown(run, page, line, lines, pages) {
-        return views::no_span(6);
-    }
-    Span {
-        number: 0,
-        from: places::character_index(shape, page, line, 1),
-        count: views::shown_length(run, page, line, lines, pages),
-    }
-}
-
-// The characters of a shown line.
-pub fn shown_part(at: Span, text: &[u8]) -> &[u8]
-    requires { (at.from + at.count ≤ length text.now) × (at.from + at.count ≤ 65536) }
-    ensures { result.now ≡ take at.count (drop at.from text.now) }
-{
-    let from = at.from;
-    let to = from + at.count;
-    &text[from..to]
-}
-
-// The spans of one line: none, one where a single book shows it, or those of the places where both do.
-pub fn note_line(
-    list: &mut [u8],
-    count: usize,
-    page: usize,
-    line: usize,
-    run: Run,
-    text: &[u8],
-    lines: &[u8],
-    pages: &[u8],
-    other: Run,
-    other_text: &[u8],
-    other_lines: &[u8],
-    other_pages: &[u8],
-) -> usize
-    requires count_bound { (count ≤ 2 ^ 29) × (page ≤ 255) × (line ≤ 255) }
-    requires book_good { T (all_fits (length text.now) (state run lines.now pages.now)) }
-    requires other_good { T (all_fits (length other_text.now) (state other other_lines.now other_pages.now)) }
-    ensures { Noted 255 (line_spans page line (line_at page line (state run lines.now pages.now) text.now) (line_at page line (state other other_lines.now other_pages.now) other_text.now)) (tally count list.old) (tally result list.new) }
-{
-    let here = line_span(run, page, line, text, lines, pages);
-    let there = line_span(other, page, line, other_text, other_lines, other_pages);
-    if here.number != 0 {
-        if there.number != 0 {
-            return count;
+impl Tally<'_> {
+    // One span more: counted, and written where the list has room for it.
+    pub fn note(&mut self, page: usize, line: usize, first: usize, last: usize)
+        requires count_bound { self.old.count ≤ 2 ^ 30 }
+        requires bytes { Bytes (span page line first last) }
+        ensures { Noted 1 (span page line first last ∷ []) self.old self.new }
+    {
+        let at = self.count * 4;
+        if at + 4 <= self.list.len() {
+            self.list[at..at + 4].copy_from_slice(&[
+                page as u8,
+                line as u8,
+                first as u8,
+                last as u8,
+            ]);
         }
-        return note(list, count, page, line, 1, there.count);
+        self.count += 1;
     }
-    if there.number != 0 {
-        return note(list, count, page, line, 1, here.count);
+
+    // The spans of a line that both books show. A `for` is no plainer here: a step goes past a whole run, so the place is counted by hand.
+    #[tactic(auto, using(crate::proofs::Walks::past_run, crate::proofs::Walks::past_agree, crate::proofs::Walks::past_last))]
+    pub fn note_runs(&mut self, page: usize, line: usize, xs: &[u8], ys: &[u8])
+        requires xs_len_bound { (length xs.now ≤ 255) × (length ys.now ≤ 255) }
+        requires count_bound { (self.old.count ≤ 2 ^ 29) × (page ≤ 255) × (line ≤ 255) }
+        ensures { Noted 255 (runs page line (place_differs xs.now ys.now) 1 (max (length xs.now) (length ys.now))) self.old self.new }
+    {
+        let limit = xs.len().max(ys.len());
+        let mut place = 1;
+        while place <= limit {
+            if differs_at(xs, ys, place) {
+                let last = run_last(xs, ys, place);
+                self.note(page, line, place, last);
+                place = last + 1;
+            } else {
+                place += 1;
+            }
+        }
     }
-    let xs = shown_part(here, text);
-    let ys = shown_part(there, other_text);
-    note_runs(list, count, page, line, xs, ys)
 }
 
-// The spans of one page, line by line, up to the larger number of lines.
-pub fn note_page(
-    list: &mut [u8],
-    count: usize,
-    page: usize,
-    run: Run,
-    text: &[u8],
-    lines: &[u8],
-    pages: &[u8],
-    other: Run,
-    other_text: &[u8],
-    other_lines: &[u8],
-    other_pages: &[u8],
-) -> usize
-    requires count_bound { (count ≤ 2 ^ 28) × (page ≤ 255) }
-    requires book_good { T (all_fits (length text.now) (state run lines.now pages.now)) }
-    requires other_good { T (all_fits (length other_text.now) (state other other_lines.now other_pages.now)) }
-    ensures { Noted 65025 (page_spans page (state run lines.now pages.now) text.now (state other other_lines.now other_pages.now) other_text.now) (tally count list.old) (tally result list.new) }
+// The characters of a line, if the book shows it.
+#[tactic(auto, using(crate::proofs::Lines::line_in))]
+pub fn shown_line<'a>(book: &CheckedBook<'a>, page: usize, line: usize) -> Option<&'a [u8]>
+    ensures line { line_of result ≡ line_at page line (state_of book.now) book.now.text.now }
+    ensures short { IfSome result (λ xs. length xs.now ≤ 255) }
 {
-    let limit = larger(run.file.shape.lines, other.file.shape.lines);
-    let mut n = count;
-    let mut line = 1;
-    while line <= limit {
-        n = note_line(
-            list,
-            n,
-            page,
-            line,
-            run,
-            text,
-            lines,
-            pages,
-            other,
-            other_text,
-            other_lines,
-            other_pages,
-        );
-        line += 1;
-    }
-    n
+    let span = book.line_span(page, line)?;
+    Some(&book.text[span.from..span.from + span.count])
 }
 
-// The spans of the books, page by page, up to the larger number of pages.
-pub fn note_book(
-    list: &mut [u8],
-    run: Run,
-    text: &[u8],
-    lines: &[u8],
-    pages: &[u8],
-    other: Run,
-    other_text: &[u8],
-    other_lines: &[u8],
-    other_pages: &[u8],
-) -> usize
-    requires book_good { T (all_fits (length text.now) (state run lines.now pages.now)) }
-    requires other_good { T (all_fits (length other_text.now) (state other other_lines.now other_pages.now)) }
-    ensures { tally result list.new ≡ walked (spans (state run lines.now pages.now) text.now (state other other_lines.now other_pages.now) other_text.now) (tally 0 list.old) }
-{
-    let limit = larger(run.file.shape.pages, other.file.shape.pages);
-    let mut n = 0;
-    let mut page = 1;
-    while page <= limit {
-        n = note_page(
-            list,
-            n,
-            page,
-            run,
-            text,
-            lines,
-            pages,
-            other,
-            other_text,
-            other_lines,
-            other_pages,
-        );
-        page += 1;
-    }
-    n
+// Two books that may be compared.
+#[derive(Clone, Copy)]
+pub struct Books<'a> {
+    pub first: CheckedBook<'a>,
+    pub second: CheckedBook<'a>,
 }
 
-// The number of the first test that fails: 1 of either record, then 3 of either book; or 0.
-pub fn number_before(
-    run: Run,
-    text: &[u8],
-    lines: &[u8],
-    pages: &[u8],
-    other: Run,
-    other_text: &[u8],
-    other_lines: &[u8],
-    other_pages: &[u8],
-) -> u8
-    ensures { result ≡ number_before (state run lines.now pages.now) text.now (state other other_lines.now other_pages.now) other_text.now }
-{
-    let here = entry::number_before(run, text, lines, pages);
-    let there = entry::number_before(other, other_text, other_lines, other_pages);
-    if here == 1 {
-        return 1;
+impl<'a> Books<'a> {
+    // Both books, or the first test that fails: 1 of either record, then 3 of either book.
+    pub fn both(
+        first: Result<CheckedBook<'a>, Refusal>,
+        second: Result<CheckedBook<'a>, Refusal>,
+    ) -> Result<Books<'a>, Refusal>
+        ensures { result ≡ both first.entry second.entry }
+    {
+        match (first, second) {
+            (Err(Refusal::NotOpen), _) | (_, Err(Refusal::NotOpen)) => Err(Refusal::NotOpen),
+            (first, second) => Ok(Books {
+                first: first?,
+                second: second?,
+            }),
+        }
     }
-    if there == 1 {
-        return 1;
+
+    // The spans of one line: none, one where a single book shows it, or those of the places where both do.
+    pub fn note_line(&self, tally: &mut Tally, page: usize, line: usize)
+        requires { (tally.old.count ≤ 2 ^ 29) × (page ≤ 255) × (line ≤ 255) }
+        ensures { Noted 255 (line_spans_of self.now page line) tally.old tally.new }
+    {
+        match (
+            shown_line(&self.first, page, line),
+            shown_line(&self.second, page, line),
+        ) {
+            (None, None) => {}
+            (Some(xs), None) => tally.note(page, line, 1, xs.len()),
+            (None, Some(ys)) => tally.note(page, line, 1, ys.len()),
+            (Some(xs), Some(ys)) => tally.note_runs(page, line, xs, ys),
+        }
     }
-    if here == 0 { there } else { here }
+
+    // The spans of one page, line by line, up to the larger number of lines.
+    pub fn note_page(&self, tally: &mut Tally, page: usize)
+        requires { (tally.old.count ≤ 2 ^ 28) × (page ≤ 255) }
+        ensures { Noted 65025 (page_spans_of self.now page) tally.old tally.new }
+    {
+        let here = self.first.run.file.shape;
+        let there = self.second.run.file.shape;
+        for line in 1..=here.lines.max(there.lines) {
+            self.note_line(tally, page, line);
+        }
+    }
+
+    // The spans of all pages, page by page, up to the larger number of pages.
+    pub fn note_pages(&self, tally: &mut Tally)
+        requires { tally.old.count ≤ 2 ^ 27 }
+        ensures { Noted 16581375 (spans_of self.now) tally.old tally.new }
+    {
+        let here = self.first.run.file.shape;
+        let there = self.second.run.file.shape;
+        for page in 1..=here.pages.max(there.pages) {
+            self.note_page(tally, page);
+        }
+    }
+
+    // The spans of the books: how many there are, and in the list those that it has room for.
+    pub fn note_book(&self, list: &mut [u8]) -> usize
+        ensures { tally result list.new ≡ walked (spans_of self.now) (tally 0 list.old) }
+    {
+        let mut tally = Tally { list, count: 0 };
+        self.note_pages(&mut tally);
+        tally.count
+    }
+
+    // How many spans there are, counted over an empty list, which has room for none.
+    pub fn count(&self) -> usize
+        ensures { result ≡ length (spans_of self.now) }
+    {
+        self.note_book(&mut [])
+    }
+
+    // The list of the spans, and how many there are; 12, and nothing written, where it is too short.
+    pub fn list(&self, list: &mut [u8]) -> Result<usize, Refusal>
+        ensures { answer_of result list.new ≡ listed_or_short (spans_of self.now) list.old }
+    {
+        if list.len() / 4 < self.count() {
+            return Err(Refusal::OutputTooShort);
+        }
+        Ok(self.note_book(list))
+    }
 }
 
-// What is handed back: the number, and how many spans there are.
+// What is handed back: the number, and how many spans there are. Two numbers side by side: it is a type of the C interface.
 #[repr(C)]
 #[derive(Clone, Copy)]
 pub struct Differences {
@@ -311,94 +190,21 @@ pub struct Differences {
     pub count: usize,
 }
 
-// An answer by its numbers.
-pub fn answered(number: u8, count: usize) -> Differences
-    ensures { result ≡ record { number = number; count = count } }
-{
-    Differences {
-        number: number,
-        count: count,
+impl From<Result<usize, Refusal>> for Differences {
+    ghost from_gives = { λ outcome differences. differences ≡ differences_of outcome };
+
+    fn from(outcome: Result<usize, Refusal>) -> Differences {
+        match outcome {
+            Ok(count) => Differences { number: 0, count },
+            Err(refusal) => Differences {
+                number: refusal.number(),
+                count: 0,
+            },
+        }
     }
 }
 
-// The tests before work and the count of spans. It is taken with a list of one byte, which has room for no span.
-pub fn counted(
-    run: Run,
-    text: &[u8],
-    lines: &[u8],
-    pages: &[u8],
-    other: Run,
-    other_text: &[u8],
-    other_lines: &[u8],
-    other_pages: &[u8],
-) -> Differences
-    ensures { answer result.number result.count [] ≡ compare_count (state run lines.now pages.now) text.now (state other other_lines.now other_pages.now) other_text.now }
-{
-    let number = number_before(
-        run,
-        text,
-        lines,
-        pages,
-        other,
-        other_text,
-        other_lines,
-        other_pages,
-    );
-    if number != 0 {
-        return answered(number, 0);
-    }
-    let mut none: [u8; 1] = [0];
-    let count = note_book(
-        &mut none,
-        run,
-        text,
-        lines,
-        pages,
-        other,
-        other_text,
-        other_lines,
-        other_pages,
-    );
-    answered(0, count)
-}
-
-// The list, once the spans are counted: nothing is written where it is too short.
-pub fn list_spans(
-    list: &mut [u8],
-    found: Differences,
-    run: Run,
-    text: &[u8],
-    lines: &[u8],
-    pages: &[u8],
-    other: Run,
-    other_text: &[u8],
-    other_lines: &[u8],
-    other_pages: &[u8],
-) -> Differences
-    requires { answer found.number found.count [] ≡ compare_count (state run lines.now pages.now) text.now (state other other_lines.now other_pages.now) other_text.now }
-    ensures { answer result.number result.count list.new ≡ compare (state run lines.now pages.now) text.now (state other other_lines.now other_pages.now) other_text.now list.old }
-{
-    if found.number != 0 {
-        return found;
-    }
-    if list.len() / 4 < found.count {
-        return answered(12, 0);
-    }
-    let count = note_book(
-        list,
-        run,
-        text,
-        lines,
-        pages,
-        other,
-        other_text,
-        other_lines,
-        other_pages,
-    );
-    answered(0, count)
-}
-
-// How many spans there are.
+// How many spans there are. The parameters are those of the C interface.
 pub fn difference_count(
     file: File,
     other_file: File,
@@ -415,19 +221,13 @@ pub fn difference_count(
 {
     let run = entry::start(file, end);
     let other = entry::start(other_file, other_end);
-    counted(
-        run,
-        text,
-        lines,
-        pages,
-        other,
-        other_text,
-        other_lines,
-        other_pages,
-    )
+    let first = CheckedBook::check(run, text, lines, pages);
+    let second = CheckedBook::check(other, other_text, other_lines, other_pages);
+    let counted = Books::both(first, second).map(|books| books.count());
+    Differences::from(counted)
 }
 
-// The list of the spans.
+// The list of the spans. The parameters are those of the C interface, with the list that is lent.
 pub fn differ(
     file: File,
     other_file: File,
@@ -445,26 +245,11 @@ pub fn differ(
 {
     let run = entry::start(file, end);
     let other = entry::start(other_file, other_end);
-    let found = counted(
-        run,
-        text,
-        lines,
-        pages,
-        other,
-        other_text,
-        other_lines,
-        other_pages,
-    );
-    list_spans(
-        list,
-        found,
-        run,
-        text,
-        lines,
-        pages,
-        other,
-        other_text,
-        other_lines,
-        other_pages,
-    )
+    let first = CheckedBook::check(run, text, lines, pages);
+    let second = CheckedBook::check(other, other_text, other_lines, other_pages);
+    let listed = match Books::both(first, second) {
+        Ok(books) => books.list(list),
+        Err(refusal) => Err(refusal),
+    };
+    Differences::from(listed)
 }

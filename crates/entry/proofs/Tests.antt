@@ -1,26 +1,27 @@
 -- The tests before work, one by one. Assumes nothing.
 use Prim.Native.Nat.{ℕ, zero, suc, ◌+◌, ◌*◌, ◌-◌, ◌^◌, ◌≤◌, ◌<◌}
 use native.Mathlib.Omega.{arith}
-use native.Mathlib.Numerals.{add-one, sub-one, lt_of_le_of_ne}
+use native.Mathlib.Numerals.{sub-one, lt_of_le_of_ne}
 use native.Mathlib.Nat.{mul-le-mul, mul-le-mul_right, mul-pos, mul-zero, zero-mul, suc-mul}
 use lib.Bits.{bit_or, or_add_and, and_le_l, and_le_r, or_lt}
 use mathlib.Core.Path.{◌≡◌, refl, sym, ap, subst, ◌∙◌}
 use mathlib.Core.Bool.{Bool, true, false, not, ◌&&◌, ◌||◌}
 use mathlib.Core.Logic.{◌⊎◌, inl, inr}
-use mathlib.Core.List.{List, [], ◌∷◌, ◌++◌}
+use mathlib.Core.List.{List}
 use lib.Dec.{T, leb, ltb, eqb}
-use lib.ListN.{length, get_or, take, drop, drop_of_length-le, get_or-eq_default}
-use lib.Seq.{take-suc, take_all, drop-cons}
+use lib.ListN.{length, get_or, get_or-eq_default}
 use borrow.Author.Tests.{le-leb, lt-leb, leb-true, eq-eqb, ne_eqb, lt-ltb, le-ltb}
-use Rattle.places.proofs.Bytes.{greater_up_to}
 use Rattle.rules.specs.declared.Position.{Position}
 use Rattle.rules.specs.declared.Shape.{Shape}
 use Rattle.rules.specs.declared.File.{File}
-use Rattle.rules.specs.Book.{choose, Lengths, lengths, page_length, line_index, line_length, State, here, end_of, shape_of, rights_of, before, within, in_bounds, legal, sizes_fit, all_up_to, lengths_fit, some_right, moods_fit, shape_fits, book_fits, all_fits, kind_of, place_of, word_fits, all_words_fit, row_fits}
+use Rattle.rules.specs.Book.{choose, Lengths, lengths, page_length, line_index, line_length, State, here, end_of, shape_of, rights_of, before, within, in_bounds, legal, sizes_fit, all_up_to, lengths_fit, some_right, moods_fit, shape_fits, book_fits, all_fits, kind_of, place_of, word_fits, row_fits}
 use Rattle.laws.proofs.Order.{and_l, and_r, lt_or_ge}
 use Rattle.laws.proofs.Entry.{all_get_d, Legal, legal_facts, Sizes, sizes_facts}
-use Rattle.entry.specs.Sound.{flags_fit, sound, placed, Lent, places_on, sound_number, placed_number, asked_number}
-use Rattle.entry.specs.Before.{sizes_are, before_work, before_asking}
+use Rattle.entry.specs.Sound.{flags_fit, sound, placed, Lent, places_on, memory_tested, places_tested}
+use Rattle.entry.specs.Before.{sizes_are, Tested, before_work, before_asking}
+use Rattle.rules.specs.declared.Refusal.{Refusal}
+use Rattle.rules.specs.declared.Refusal.TheVariants.{NotOpen, BadAnswers, BadBook}
+use Rattle.std.specs.Prelude.{Ok, Err}
 
 -- ---- products
 
@@ -35,33 +36,6 @@ legal_lines h q = (legal_facts h q).all_lines
 
 pub legal-characters : (h : Shape) → T (legal h) → h.pages * h.lines * h.characters ≤ 65536
 legal-characters h q = (legal_facts h q).all_characters
-
--- ---- lengths: one that is above the limit adds 1 to what is counted
-
-all_more : (most : ℕ) (xs : List ℕ) (x : ℕ) → all_up_to most (xs ++ (x ∷ [])) ≡ (all_up_to most xs && leb x most)
-unfolding all_up_to
-all_more most [] x = last (leb x most)
-  where
-    last : (p : Bool) → (p && true) ≡ p
-    last true = refl
-    last false = refl
-all_more most (y ∷ ys) x = ap (λ (b : Bool). leb y most && b) (all_more most ys x) ∙ joined (leb y most) (all_up_to most ys) (leb x most)
-  where
-    joined : (p q r : Bool) → (p && (q && r)) ≡ ((p && q) && r)
-    joined true q r = refl
-    joined false q r = refl
-
-module _ (most : ℕ) (xs : List ℕ) where
-  pub all_none : leb 0 most ≡ all_up_to most (take 0 xs)
-  unfolding all_up_to
-  all_none = le-leb 0 most (omega arith)
-
-  pub all_next : (top i : ℕ) {next : ℕ} → i < length xs → next ≡ choose (ltb top (get_or xs i 0)) (get_or xs i 0) top → leb top most ≡ all_up_to most (take i xs) → leb next most ≡ all_up_to most (take (i + 1) xs)
-  all_next top i h n e = ap (λ (t : ℕ). leb t most) n ∙ greater_up_to top (get_or xs i 0) most ∙ ap (λ (p : Bool). p && leb (get_or xs i 0) most) e
-      ∙ sym (ap (λ (k : ℕ). all_up_to most (take k xs)) (add-one i) ∙ ap (all_up_to most) (take-suc xs i 0 h) ∙ all_more most (take i xs) (get_or xs i 0))
-
-  pub all_last : (top i : ℕ) → length xs ≤ i → leb top most ≡ all_up_to most (take i xs) → leb top most ≡ all_up_to most xs
-  all_last top i h e = e ∙ ap (all_up_to most) (take_all i xs h)
 
 -- ---- a shape: its numbers are at most 255 where their bits together are, and at least 1 where their product is
 
@@ -209,26 +183,6 @@ module _ (w k : ℕ) (x : Position) (e : k ≡ kind_of w) (f : x ≡ place_of w)
 
           pub word_suggests : eqb x.character 0 ≡ false → eqb k 7 ≡ true → leb x.character 255 ≡ word_fits w
           word_suggests m n = sym (word_as ∙ rw (h, i, j, l, m, n))
-
-pub row_long : (row : List ℕ) → 64 < length row → false ≡ row_fits row
-unfolding row_fits
-row_long row h = rw (lt-leb (length row) 64 h)
-
-module _ (row : List ℕ) (i : ℕ) (m : all_words_fit row ≡ all_words_fit (drop i row)) where
-  next_left : i < length row → all_words_fit (drop i row) ≡ (word_fits (get_or row i 0) && all_words_fit (drop (i + 1) row))
-  unfolding all_words_fit
-  next_left h = ap all_words_fit (drop-cons row i 0 h) ∙ ap (λ (k : ℕ). word_fits (get_or row i 0) && all_words_fit (drop k row)) (sym (add-one i))
-
-  pub row_next : i < length row → word_fits (get_or row i 0) ≡ true → all_words_fit row ≡ all_words_fit (drop (i + 1) row)
-  row_next h e = m ∙ next_left h ∙ ap (λ (p : Bool). p && all_words_fit (drop (i + 1) row)) e
-
-  pub row_bad : length row ≤ 64 → i < length row → word_fits (get_or row i 0) ≡ false → false ≡ row_fits row
-  unfolding row_fits
-  row_bad k h e = rw (le-leb (length row) 64 k) (sym (m ∙ next_left h ∙ ap (λ (p : Bool). p && all_words_fit (drop (i + 1) row)) e))
-
-  pub row_good : length row ≤ 64 → length row ≤ i → true ≡ row_fits row
-  unfolding row_fits all_words_fit
-  row_good k h = rw (le-leb (length row) 64 k) (sym (m ∙ ap all_words_fit (drop_of_length-le row h)))
 
 -- ---- what a fitting shape says
 
@@ -491,52 +445,46 @@ module _ (h : Shape) (f : Lengths) (at end : Position) where
   pub reached_other : before end at ≡ false → {b : Bool} → b ≡ in_bounds h f at → b ≡ (not (before end at) && in_bounds h f at)
   reached_other e i = i ∙ rw e
 
--- ---- the first test that fails
+-- ---- one test after another
 
-module _ (row : List ℕ) (n : ℕ) (s : State) {k : ℕ} (e : k ≡ before_work n s) where
-  pub asking_refused : (k ≡ 0 → ⊥) → k ≡ before_asking row n s
-  asking_refused h = e ∙ by s.run.file.opened (all_fits n s) (λ z. h (e ∙ z))
-    where
-      by : (p q : Bool) → (◌≡◌ {A = ℕ} (choose p (choose q 0 3) 1) 0 → ⊥) → ◌≡◌ {A = ℕ} (choose p (choose q 0 3) 1) (choose p (choose q (choose (row_fits row) 0 2) 3) 1)
-      by true true h = absurd (h refl)
-      by true false h = refl
-      by false q h = refl
+-- the second is made where the first fails nowhere
+abbrev pub then_tested : Tested → Tested → Tested
+then_tested (Ok u) y = y
+then_tested (Err n) y = Err n
 
-  pub asking_row : k ≡ 0 → ◌≡◌ {A = ℕ} (choose (row_fits row) 0 2) (before_asking row n s)
-  asking_row h = by s.run.file.opened (all_fits n s) (sym e ∙ h)
-    where
-      by : (p q : Bool) → ◌≡◌ {A = ℕ} (choose p (choose q 0 3) 1) 0 → ◌≡◌ {A = ℕ} (choose (row_fits row) 0 2) (choose p (choose q (choose (row_fits row) 0 2) 3) 1)
-      by true true h = refl
-      by true false h = absurd (omega (arith, h))
-      by false q h = absurd (omega (arith, h))
+module _ {x : Tested} (y : Tested) {z : Tested} (both : then_tested x y ≡ z) {a : Tested} (e : a ≡ x) where
+  pub tested_fails : {n : Refusal} → a ≡ Err n → Err n ≡ z
+  tested_fails h = ap (λ (b : Tested). then_tested b y) (sym h ∙ e) ∙ both
+
+  pub tested_on : {u : Unit {0}} → a ≡ Ok u → y ≡ z
+  tested_on h = ap (λ (b : Tested). then_tested b y) (sym h ∙ e) ∙ both
 
 -- memory whose first half of tests failed nowhere
-pub number_lent : (n : ℕ) (f : File) (l p : List ℕ) {k : ℕ} → k ≡ sound_number n f l p → k ≡ 0 → Lent f.shape n l p
-number_lent n f l p e z = sound_lent f.shape n l p (by f.opened (flags_fit f) (sound f.shape n l p) (sym e ∙ z))
+pub tested_lent : (n : ℕ) (f : File) (l p : List ℕ) {k : Tested} → k ≡ memory_tested n f l p → {u : Unit {0}} → k ≡ Ok u → Lent f.shape n l p
+tested_lent n f l p e {u} z = sound_lent f.shape n l p (by f.opened (flags_fit f) (sound f.shape n l p) (sym e ∙ z))
   where
-    by : (o a b : Bool) → ◌≡◌ {A = ℕ} (choose o (choose (a && b) 0 3) 1) 0 → b ≡ true
+    by : (o a b : Bool) → choose o (choose (a && b) (Ok tt) (Err BadBook)) (Err NotOpen) ≡ Ok u → b ≡ true
     by true true true h = refl
-    by true true false h = absurd (omega (arith, h))
-    by true false b h = absurd (omega (arith, h))
-    by false a b h = absurd (omega (arith, h))
+    by true true false h = absurd (let o : ◌≡◌ {A = ℕ} 0 1 = cc in omega arith)
+    by true false b h = absurd (let o : ◌≡◌ {A = ℕ} 0 1 = cc in omega arith)
+    by false a b h = absurd (let o : ◌≡◌ {A = ℕ} 0 1 = cc in omega arith)
 
 -- both halves together
-pub both_halves : (n : ℕ) (s : State) {k j : ℕ} → k ≡ sound_number n s.run.file s.lengths.lines s.lengths.pages → j ≡ placed_number k s.run.file (end_of s) s.lengths → j ≡ before_work n s
-both_halves n s a b = b ∙ ap (λ (k : ℕ). placed_number k s.run.file (end_of s) s.lengths) a
-    ∙ by s.run.file.opened (flags_fit s.run.file) (sound (shape_of s) n s.lengths.lines s.lengths.pages) (placed (shape_of s) s.lengths (here s) (end_of s))
-    ∙ ap (λ (q : Bool). choose s.run.file.opened (choose q 0 3) 1) (all_parts n s)
+pub both_halves : (n : ℕ) (s : State) → then_tested (memory_tested n s.run.file s.lengths.lines s.lengths.pages) (places_tested s.run.file (end_of s) s.lengths) ≡ before_work n s
+both_halves n s = by s.run.file.opened (flags_fit s.run.file) (sound (shape_of s) n s.lengths.lines s.lengths.pages) (placed (shape_of s) s.lengths (here s) (end_of s))
+    ∙ ap (λ (q : Bool). choose s.run.file.opened (choose q (Ok tt) (Err BadBook)) (Err NotOpen)) (all_parts n s)
   where
-    by : (o f m q : Bool) → ◌≡◌ {A = ℕ} (choose (eqb (choose o (choose (f && m) 0 3) 1) 0) (choose q 0 3) (choose o (choose (f && m) 0 3) 1)) (choose o (choose (f && (m && q)) 0 3) 1)
+    by : (o f m q : Bool) → then_tested (choose o (choose (f && m) (Ok tt) (Err BadBook)) (Err NotOpen)) (choose q (Ok tt) (Err BadBook)) ≡ choose o (choose (f && (m && q)) (Ok tt) (Err BadBook)) (Err NotOpen)
     by true true true q = refl
     by true true false q = refl
     by true false m q = refl
     by false f m q = refl
 
 -- and the answers' test
-pub then_asked : (row : List ℕ) (n : ℕ) (s : State) {k j : ℕ} → k ≡ before_work n s → j ≡ asked_number k row → j ≡ before_asking row n s
-then_asked row n s a b = b ∙ ap (λ (k : ℕ). asked_number k row) a ∙ by s.run.file.opened (all_fits n s) (row_fits row)
+pub then_asked : (row : List ℕ) (n : ℕ) (s : State) → then_tested (before_work n s) (choose (row_fits row) (Ok tt) (Err BadAnswers)) ≡ before_asking row n s
+then_asked row n s = by s.run.file.opened (all_fits n s)
   where
-    by : (p q r : Bool) → ◌≡◌ {A = ℕ} (choose (eqb (choose p (choose q 0 3) 1) 0) (choose r 0 2) (choose p (choose q 0 3) 1)) (choose p (choose q (choose r 0 2) 3) 1)
-    by true true r = refl
-    by true false r = refl
-    by false q r = refl
+    by : (p q : Bool) → then_tested (choose p (choose q (Ok tt) (Err BadBook)) (Err NotOpen)) (choose (row_fits row) (Ok tt) (Err BadAnswers)) ≡ choose p (choose q (choose (row_fits row) (Ok tt) (Err BadAnswers)) (Err BadBook)) (Err NotOpen)
+    by true true = refl
+    by true false = refl
+    by false q = refl

@@ -1,26 +1,32 @@
 -- What the tests before work and the turn of the moods come to, over the running call; and the replies.
-use Rattle.std.specs.Prelude.{ℕ, ◌*◌, Bool, not, ◌&&◌, ◌||◌, List, eqb}
+use Rattle.std.specs.Prelude.{ℕ, ◌*◌, Bool, not, ◌&&◌, ◌||◌, List, eqb, Result, Ok, Err}
 use Rattle.rules.specs.declared.Shape.{Shape}
 use Rattle.rules.specs.declared.Rights.{Rights}
 use Rattle.rules.specs.declared.Run.{Run}
-use Rattle.rules.specs.declared.Outcome.{Outcome}
+use Rattle.rules.specs.declared.Refusal.{Refusal}
+use Rattle.rules.specs.declared.Refusal.TheVariants.{NotOpen, BadAnswers, BadBook, RightMissing, MoodMissing}
+use Rattle.rules.specs.declared.Ending.TheVariants.{Refused}
+use Rattle.rules.specs.declared.EndedCall.{EndedCall}
+use Rattle.rules.specs.declared.Taken.{Taken}
 use Rattle.rules.specs.declared.Given.{Given}
 use Rattle.rules.specs.declared.Given.TheVariants.{Nothing}
-use Rattle.rules.specs.declared.Event.TheVariants.{None}
 use Rattle.rules.specs.declared.Reply.{Reply}
 use Rattle.rules.specs.Book.{choose, State, in_mood, row_fits, all_fits}
-use Rattle.rules.specs.Step.{status_of, status_by, done_by, refused_by}
+use Rattle.rules.specs.Step.{OrEnding, Outcome, done_by, refused_by}
 
 -- sizes that fit, of n characters and of l and p lengths
 abbrev pub sizes_are : Shape → ℕ → ℕ → ℕ → Bool
 sizes_are h n l p = eqb n (h.pages * h.lines * h.characters) && eqb l (h.pages * h.lines) && eqb p h.pages
 
--- the number of the first test that fails, or 0, with n characters lent
-abbrev pub before_work : ℕ → State → ℕ
-before_work n s = choose s.run.file.opened (choose (all_fits n s) 0 3) 1
+-- the first test that fails, if one does, with n characters lent
+abbrev pub Tested : Type 0
+Tested = Result Unit Refusal
 
-abbrev pub before_asking : List ℕ → ℕ → State → ℕ
-before_asking row n s = choose s.run.file.opened (choose (all_fits n s) (choose (row_fits row) 0 2) 3) 1
+abbrev pub before_work : ℕ → State → Tested
+before_work n s = choose s.run.file.opened (choose (all_fits n s) (Ok tt) (Err BadBook)) (Err NotOpen)
+
+abbrev pub before_asking : List ℕ → ℕ → State → Tested
+before_asking row n s = choose s.run.file.opened (choose (all_fits n s) (choose (row_fits row) (Ok tt) (Err BadAnswers)) (Err BadBook)) (Err NotOpen)
 
 -- the right of a get or of a put
 abbrev pub may_do : Bool → Rights → Bool
@@ -30,13 +36,18 @@ abbrev pub turnable_by : Bool → Run → Bool
 turnable_by reading r = r.file.rights.«set» || not (choose reading r.file.writing r.file.reading)
 
 abbrev pub turned_by : Bool → Run → Outcome
-turned_by reading r = choose (may_do reading r.file.rights) (choose (turnable_by reading r) (done_by (in_mood r reading)) (refused_by r 5)) (refused_by r 4)
+turned_by reading r = choose (may_do reading r.file.rights) (choose (turnable_by reading r) (done_by (in_mood r reading)) (Err (refused_by r MoodMissing))) (Err (refused_by r RightMissing))
 
-abbrev pub reply_of : Run → ℕ → Given → Reply
+abbrev pub reply_of : Run → ℕ → OrEnding Given → Reply
 reply_of r count given = record { file = r.file; end = r.end; events = r.events; taken = r.taken; count = count; given = given }
 
-abbrev pub refused_reply : Run → ℕ → Reply
-refused_reply r n = reply_of r 0 (Nothing (status_of n 0 None))
+abbrev pub refused_reply : Run → Refusal → Reply
+refused_reply r n = reply_of r 0 (Err (Refused n))
+
+abbrev pub given_reply : Result (Taken Given) EndedCall → Reply
+given_reply (Ok d) = reply_of d.run 0 (Ok d.value)
+given_reply (Err e) = reply_of e.run 0 (Err e.ending)
 
 abbrev pub ended_reply : Outcome → Reply
-ended_reply o = reply_of o.run 0 (Nothing (status_by o))
+ended_reply (Ok r) = reply_of r 0 (Ok Nothing)
+ended_reply (Err e) = reply_of e.run 0 (Err e.ending)

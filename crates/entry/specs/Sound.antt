@@ -1,10 +1,11 @@
 -- The tests of refusal 3 in three parts, each of which the code does by itself: the record's flags, the lent memory, and the two places.
-use Rattle.std.specs.Prelude.{ℕ, ◌+◌, ◌*◌, ◌≤◌, ◌≡◌, Bool, not, ◌&&◌, List, eqb, length, get_or}
+use Rattle.std.specs.Prelude.{ℕ, ◌+◌, ◌*◌, ◌≤◌, ◌≡◌, Bool, not, ◌&&◌, List, length, get_or, Ok, Err}
 use Rattle.rules.specs.declared.Position.{Position}
 use Rattle.rules.specs.declared.Shape.{Shape}
 use Rattle.rules.specs.declared.File.{File}
-use Rattle.rules.specs.Book.{choose, within, before, Lengths, lengths, page_length, line_length, in_bounds, legal, lengths_fit, some_right, moods_fit, row_fits}
-use Rattle.entry.specs.Before.{sizes_are}
+use Rattle.rules.specs.declared.Refusal.TheVariants.{NotOpen, BadBook}
+use Rattle.rules.specs.Book.{choose, within, before, Lengths, lengths, page_length, line_length, in_bounds, legal, lengths_fit, some_right, moods_fit}
+use Rattle.entry.specs.Before.{sizes_are, Tested}
 
 -- "both moods on, a mood without its right, or no right to get or put"
 abbrev pub flags_fit : File → Bool
@@ -33,16 +34,12 @@ pub record Lent (h : Shape) (n : ℕ) (l p : List ℕ) : Type 0 where
 unfoldable pub places_on : Shape → Lengths → ℕ → ℕ → ℕ
 places_on h f p l = choose (within 1 p (h.pages + 1) && within 1 l (page_length f.pages p + 1)) (line_length h f p l + 1) 0
 
--- ---- the numbers of these tests, one after the other: a number that is not 0 is passed on
+-- ---- what these tests come to
 
 -- 1 where the record is not open; 3 for the flags and the lent memory
-abbrev pub sound_number : ℕ → File → List ℕ → List ℕ → ℕ
-sound_number n f l p = choose f.opened (choose (flags_fit f && sound f.shape n l p) 0 3) 1
+abbrev pub memory_tested : ℕ → File → List ℕ → List ℕ → Tested
+memory_tested n f l p = choose f.opened (choose (flags_fit f && sound f.shape n l p) (Ok tt) (Err BadBook)) (Err NotOpen)
 
 -- 3 for the two places
-abbrev pub placed_number : ℕ → File → Position → Lengths → ℕ
-placed_number k f end lens = choose (eqb k 0) (choose (placed f.shape lens f.position end) 0 3) k
-
--- 2 for the answers
-abbrev pub asked_number : ℕ → List ℕ → ℕ
-asked_number k row = choose (eqb k 0) (choose (row_fits row) 0 2) k
+abbrev pub places_tested : File → Position → Lengths → Tested
+places_tested f end lens = choose (placed f.shape lens f.position end) (Ok tt) (Err BadBook)

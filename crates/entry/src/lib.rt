@@ -3,10 +3,12 @@
 
 ghost use Rattle.std.specs.Prelude.{◌≡◌, true, not, ◌&&◌, ◌≤◌, T, length};
 ghost use Rattle.rules.specs.Book.{state, lengths, run_with, before, legal, all_up_to, lengths_fit, some_right, in_bounds, shape_fits, book_fits, all_fits, moods_fit, word_fits, row_fits};
-ghost use Rattle.entry.specs.Sound.{flags_fit, sound, Lent, places_on, sound_number, placed_number, asked_number};
-ghost use Rattle.entry.specs.Before.{sizes_are, before_work, before_asking, may_do, turnable_by, turned_by, reply_of, refused_reply, ended_reply};
+ghost use Rattle.entry.specs.Sound.{flags_fit, sound, Lent, places_on, memory_tested, places_tested};
+ghost use Rattle.entry.specs.Before.{sizes_are, before_work, before_asking, may_do, turnable_by, turned_by, reply_of, refused_reply, given_reply, ended_reply};
 
-use rules::{Event, File, Given, Outcome, Position, Reply, Rights, Run, Shape, Status};
+use rules::{
+    EndedCall, Ending, File, Given, Outcome, Position, Refusal, Reply, Rights, Run, Shape, Taken,
+};
 
 // The running call that a call begins with.
 pub fn start(file: File, end: Position) -> Run
@@ -55,16 +57,12 @@ pub fn sizes_fit(shape: Shape, text: usize, lines: usize, pages: usize) -> bool
 }
 
 // Whether every lent length is at most a limit: one pass for the greatest, without a branch for an element.
+#[tactic(auto, using(crate::proofs::Lists::all_by_greatest, std::proofs::lemmas::Grind::common_steps))]
 pub fn all_up_to(most: usize, lengths: &[u8]) -> bool
     ensures { result ≡ all_up_to most lengths.now }
 {
-    let mut top: u8 = 0;
-    let mut i = 0;
-    while i < lengths.len() {
-        top = places::greater(top, lengths[i]);
-        i += 1;
-    }
-    places::wide(top) <= most
+    let top = lengths.iter().fold(0, |top, length| top.max(*length));
+    usize::from(top) <= most
 }
 
 // "At least one of get and put is needed."
@@ -258,48 +256,44 @@ pub fn is_reached(
 }
 
 // The first half of the tests before work: 1 where the record is not open; 3 where its flags, its shape, the lent sizes or the lengths do
-// not fit; or 0. The tests stand in two halves, so that each is short enough to become part of its caller.
-pub fn number_sound(file: File, text: usize, lines: &[u8], pages: &[u8]) -> u8
-    ensures { result ≡ sound_number text file lines.now pages.now }
+// not fit. The tests stand in two halves, so that each is short enough to become part of its caller.
+pub fn test_memory(file: File, text: usize, lines: &[u8], pages: &[u8]) -> Result<(), Refusal>
+    ensures { result ≡ memory_tested text file lines.now pages.now }
 {
     let shape = file.shape;
     if !file.opened {
-        return 1;
+        return Err(Refusal::NotOpen);
     }
     if !flags_fit(file) {
-        return 3;
+        return Err(Refusal::BadBook);
     }
     if is_sound(shape, text, lines, pages) {
-        0
+        Ok(())
     } else {
-        3
+        Err(Refusal::BadBook)
     }
 }
 
-// The second half: the number so far where it is not 0; 3 where logical end or position do not fit; or 0.
-pub fn number_placed(
-    sound: u8,
+// The second half: 3 where logical end or position do not fit.
+pub fn test_places(
     file: File,
     end: Position,
     text: usize,
     lines: &[u8],
     pages: &[u8],
-) -> u8
-    requires { sound ≡ 0 → Lent file.shape text lines.now pages.now }
-    ensures { result ≡ placed_number sound file end (lengths lines.now pages.now) }
+) -> Result<(), Refusal>
+    requires { Lent file.shape text lines.now pages.now }
+    ensures { result ≡ places_tested file end (lengths lines.now pages.now) }
 {
     let shape = file.shape;
     let position = file.position;
-    if sound != 0 {
-        return sound;
-    }
     if !is_within(shape, text, lines, pages, end) {
-        return 3;
+        return Err(Refusal::BadBook);
     }
     if is_reached(shape, text, lines, pages, position, end) {
-        0
+        Ok(())
     } else {
-        3
+        Err(Refusal::BadBook)
     }
 }
 
@@ -334,48 +328,35 @@ pub fn word_fits(word: u32) -> bool
 pub fn row_fits(row: &[u32]) -> bool
     ensures { result ≡ row_fits row.now }
 {
-    if 64 < row.len() {
-        return false;
-    }
-    let mut i = 0;
-    while i < row.len() {
-        if !word_fits(row[i]) {
-            return false;
-        }
-        i += 1;
-    }
-    true
+    row.len() <= 64 && row.iter().all(|word| word_fits(*word))
 }
 
-// Both halves: 1, then 3; or 0.
-pub fn number_before(run: Run, text: &[u8], lines: &[u8], pages: &[u8]) -> u8
+// Both halves: 1, then 3.
+pub fn test_book(run: Run, text: &[u8], lines: &[u8], pages: &[u8]) -> Result<(), Refusal>
     ensures { result ≡ before_work (length text.now) (state run lines.now pages.now) }
 {
     let file = run.file;
     let end = run.end;
-    let sound = number_sound(file, text.len(), lines, pages);
-    number_placed(sound, file, end, text.len(), lines, pages)
+    test_memory(file, text.len(), lines, pages)?;
+    test_places(file, end, text.len(), lines, pages)
 }
 
-// The test of a call that lends answers, after both: the number so far where it is not 0; 2 where the answers do not fit; or 0.
-pub fn number_asked(placed: u8, row: &[u32]) -> u8
-    ensures { result ≡ asked_number placed row.now }
-{
-    if placed != 0 {
-        return placed;
-    }
-    if row_fits(row) { 0 } else { 2 }
-}
-
-// The same of one that lends answers: 1, then 3, then 2; or 0.
-pub fn number_asking(run: Run, text: &[u8], lines: &[u8], pages: &[u8], row: &[u32]) -> u8
+// The tests of a call that lends answers: 1, then 3, then 2.
+pub fn test_call(
+    run: Run,
+    text: &[u8],
+    lines: &[u8],
+    pages: &[u8],
+    row: &[u32],
+) -> Result<(), Refusal>
     ensures { result ≡ before_asking row.now (length text.now) (state run lines.now pages.now) }
 {
-    let number = number_before(run, text, lines, pages);
-    if number != 0 {
-        return number;
+    test_book(run, text, lines, pages)?;
+    if row_fits(row) {
+        Ok(())
+    } else {
+        Err(Refusal::BadAnswers)
     }
-    if row_fits(row) { 0 } else { 2 }
 }
 
 // The right of a call that gets, or of one that puts.
@@ -406,17 +387,16 @@ pub fn turned(run: Run, reading: bool) -> Outcome
 {
     let rights = run.file.rights;
     if !may_do(rights, reading) {
-        return running::refused(run, 4);
+        return Err(running::refused(run, Refusal::RightMissing));
     }
     if !is_turnable(run, reading) {
-        return running::refused(run, 5);
+        return Err(running::refused(run, Refusal::MoodMissing));
     }
-    let on = running::in_mood(run, reading);
-    running::finish(on)
+    Ok(running::in_mood(run, reading))
 }
 
 // All that a call hands back by value.
-pub fn reply(run: Run, count: usize, given: Given) -> Reply
+pub fn reply(run: Run, count: usize, given: Result<Given, Ending>) -> Reply
     ensures { result ≡ reply_of run count given }
 {
     let file = run.file;
@@ -432,22 +412,28 @@ pub fn reply(run: Run, count: usize, given: Given) -> Reply
 }
 
 // A refusal.
-pub fn refuse(run: Run, number: u8) -> Reply
-    ensures { result ≡ refused_reply run number }
+pub fn refuse(run: Run, refusal: Refusal) -> Reply
+    ensures { result ≡ refused_reply run refusal }
 {
-    let status = Status {
-        number: number,
-        stop: 0,
-        event: Event::None,
-    };
-    reply(run, 0, Given::Nothing(status))
+    reply(run, 0, Err(Ending::Refused(refusal)))
+}
+
+// A call that may give a character or an integer.
+pub fn given(found: Result<Taken<Given>, EndedCall>) -> Reply
+    ensures { result ≡ given_reply found }
+{
+    match found {
+        Ok(taken) => reply(taken.run, 0, Ok(taken.value)),
+        Err(ended) => reply(ended.run, 0, Err(ended.ending)),
+    }
 }
 
 // A call that gives nothing but how it ended.
-pub fn ended(o: Outcome) -> Reply
-    ensures { result ≡ ended_reply o }
+pub fn ended(outcome: Outcome) -> Reply
+    ensures { result ≡ ended_reply outcome }
 {
-    let run = o.run;
-    let status = running::status_by(o);
-    reply(run, 0, Given::Nothing(status))
+    match outcome {
+        Ok(run) => reply(run, 0, Ok(Given::Nothing)),
+        Err(ended) => reply(ended.run, 0, Err(ended.ending)),
+    }
 }

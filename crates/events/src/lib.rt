@@ -3,13 +3,12 @@
 #![tactic(auto)]
 
 ghost use Rattle.std.specs.Prelude.{◌≡◌};
-ghost use Rattle.rules.specs.Book.{state, mending_of};
-ghost use Rattle.rules.specs.Step.{outcome};
+ghost use Rattle.rules.specs.Book.{state};
+ghost use Rattle.rules.specs.Step.{outcome, mending_as};
 ghost use Rattle.rules.specs.Steps.{Action, execute};
 ghost use Rattle.rules.specs.Ready.{Ready};
-ghost use Rattle.laws.specs.Follow.{followed};
 
-use rules::{Event, Outcome, Position, Run};
+use rules::{Answer, Event, Mending, Outcome, Position, Refusal, Run, Stop};
 
 // "Good file: reading, signal logical end while the position is at it; writing, signal physical end while p > P."
 #[cycle(event)]
@@ -27,22 +26,23 @@ pub fn good_file(
 {
     let mut here = run;
     while places::file_ended(here, reading) {
-        let word = running::next_word(here, row);
         let next = running::signalled(here, row);
         let event = running::file_end(reading);
-        if running::kind_of(word) == 0 {
-            if string {
-                return running::stopped(next, 3);
+        here = match running::next_answer(here, row) {
+            Answer::Default if string => {
+                return Err(running::stopped(next, Stop::EndReached));
             }
-            return running::refused_at(next, event, running::file_end_number(reading));
-        }
-        let after = follow(next, word, reading, text, lines, pages, row, event);
-        if !running::goes_on(after) {
-            return after;
-        }
-        here = after.run;
+            Answer::Default => {
+                let refusal = running::file_end_refusal(reading);
+                return Err(running::refused_at(next, event, refusal));
+            }
+            Answer::Jump => {
+                return Err(running::refused_at(next, event, Refusal::ProgramJumped));
+            }
+            Answer::Mend(mending) => { answered(next, mending, reading, text, lines, pages, row)? }
+        };
     }
-    running::finish(here)
+    Ok(here)
 }
 
 // "Good page: good file, then signal page end while l exceeds the page length."
@@ -61,18 +61,11 @@ pub fn good_page(
 {
     let mut here = run;
     'turning: loop {
-        let good = good_file(here, reading, string, text, lines, pages, row);
-        if !running::goes_on(good) {
-            return good;
+        let at = good_file(here, reading, string, text, lines, pages, row)?;
+        if !places::page_ended(at, pages) {
+            return Ok(at);
         }
-        if !places::page_ended(good.run, pages) {
-            return good;
-        }
-        let turned = page_end(good.run, reading, text, lines, pages, row);
-        if !running::goes_on(turned) {
-            return turned;
-        }
-        here = turned.run;
+        here = page_end(at, reading, text, lines, pages, row)?;
     }
 }
 
@@ -89,12 +82,11 @@ pub fn page_end(
     requires { Ready row.now (Action.at_page_end reading) (state run lines.old pages.old) }
     ensures { outcome result text.new lines.new pages.new ≡ execute row.now (Action.at_page_end reading) (state run lines.old pages.old) text.old }
 {
-    let word = running::next_word(run, row);
     let next = running::signalled(run, row);
-    if running::kind_of(word) == 0 {
-        newpage(next, reading, text, lines, pages, row)
-    } else {
-        follow(next, word, reading, text, lines, pages, row, Event::PageEnd)
+    match running::next_answer(run, row) {
+        Answer::Default => newpage(next, reading, text, lines, pages, row),
+        Answer::Jump => Err(running::refused_at(next, Event::PageEnd, Refusal::ProgramJumped)),
+        Answer::Mend(mending) => answered(next, mending, reading, text, lines, pages, row),
     }
 }
 
@@ -114,19 +106,14 @@ pub fn newline(
 {
     let mut here = run;
     loop {
-        let good = good_page(here, reading, false, text, lines, pages, row);
-        if !running::goes_on(good) {
-            return good;
-        }
-        let at = good.run;
+        let at = good_page(here, reading, false, text, lines, pages, row)?;
         if !places::on_end_line(at) {
-            let on = running::moved(at, at.file.position.page, at.file.position.line + 1, 1);
-            return running::finish(on);
+            let position = at.file.position;
+            return Ok(running::moved(at, position.page, position.line + 1, 1));
         }
         let last = running::moved(at, at.end.page, at.end.line, at.end.character);
         if !reading {
-            let closed = stores::end_line(last, text, lines, pages);
-            return running::finish(closed);
+            return Ok(stores::end_line(last, text, lines, pages));
         }
         here = last;
     }
@@ -148,91 +135,61 @@ pub fn newpage(
 {
     let mut here = run;
     loop {
-        let good = good_file(here, reading, false, text, lines, pages, row);
-        if !running::goes_on(good) {
-            return good;
-        }
-        let at = good.run;
+        let at = good_file(here, reading, false, text, lines, pages, row)?;
         if at.file.position.page != at.end.page {
-            let on = running::moved(at, at.file.position.page + 1, 1, 1);
-            return running::finish(on);
+            return Ok(running::moved(at, at.file.position.page + 1, 1, 1));
         }
         let last = running::moved(at, at.end.page, at.end.line, at.end.character);
         if !reading {
-            let closed = stores::end_page(last, text, lines, pages);
-            return running::finish(closed);
+            return Ok(stores::end_page(last, text, lines, pages));
         }
         here = last;
     }
 }
 
-// Follows an event's answer that is not false: kind 8 ends the call in that event; any other is performed, and the call's mood is set
-// again.
+// Follows an answer that is true: it is performed, and the call's mood is set again.
 #[cycle(event)]
-pub fn follow(
+pub fn answered(
     run: Run,
-    word: u32,
+    mending: Mending,
     reading: bool,
     text: &mut [u8],
     lines: &mut [u8],
     pages: &mut [u8],
     row: &[u32],
-    event: Event,
 ) -> Outcome
-    requires { Ready row.now (Action.answered reading (mending_of word)) (state run lines.old pages.old) }
-    ensures { outcome result text.new lines.new pages.new ≡ followed row.now event reading word (state run lines.old pages.old) text.old }
+    requires { Ready row.now (Action.answered reading (mending_as mending)) (state run lines.old pages.old) }
+    ensures { outcome result text.new lines.new pages.new ≡ execute row.now (Action.answered reading (mending_as mending)) (state run lines.old pages.old) text.old }
 {
-    if running::kind_of(word) == 8 {
-        return running::refused_at(run, event, 11);
-    }
-    let after = perform(run, word, text, lines, pages, row);
-    if running::goes_on(after) {
-        let again = running::in_mood(after.run, reading);
-        running::finish(again)
-    } else {
-        after
-    }
+    let after = perform(run, mending, text, lines, pages, row)?;
+    Ok(running::in_mood(after, reading))
 }
 
-// What a true answer does, by its kind.
+// What a true answer does.
 #[cycle(event)]
 pub fn perform(
     run: Run,
-    word: u32,
+    mending: Mending,
     text: &mut [u8],
     lines: &mut [u8],
     pages: &mut [u8],
     row: &[u32],
 ) -> Outcome
-    requires { Ready row.now (Action.perform (mending_of word)) (state run lines.old pages.old) }
-    ensures { outcome result text.new lines.new pages.new ≡ execute row.now (Action.perform (mending_of word)) (state run lines.old pages.old) text.old }
+    requires { Ready row.now (Action.perform (mending_as mending)) (state run lines.old pages.old) }
+    ensures { outcome result text.new lines.new pages.new ≡ execute row.now (Action.perform (mending_as mending)) (state run lines.old pages.old) text.old }
 {
-    let kind = running::kind_of(word);
-    if kind == 2 {
-        if run.file.reading {
-            newline(run, true, text, lines, pages, row)
-        } else if run.file.writing {
-            newline(run, false, text, lines, pages, row)
-        } else {
-            running::refused(run, 5)
-        }
-    } else if kind == 3 {
-        if run.file.reading {
-            newpage(run, true, text, lines, pages, row)
-        } else if run.file.writing {
-            newpage(run, false, text, lines, pages, row)
-        } else {
-            running::refused(run, 5)
-        }
-    } else if kind == 4 {
-        let to = running::place_of(word);
-        set_to(run, to, text, lines, pages, row)
-    } else if kind == 5 {
-        running::backspace(run)
-    } else if kind == 6 {
-        running::reset(run)
-    } else {
-        running::finish(run)
+    match mending {
+        Mending::Nothing => Ok(run),
+        Mending::Suggest(_) => Ok(run),
+        Mending::Newline if run.file.reading => newline(run, true, text, lines, pages, row),
+        Mending::Newline if run.file.writing => newline(run, false, text, lines, pages, row),
+        Mending::Newline => Err(running::refused(run, Refusal::MoodMissing)),
+        Mending::Newpage if run.file.reading => newpage(run, true, text, lines, pages, row),
+        Mending::Newpage if run.file.writing => newpage(run, false, text, lines, pages, row),
+        Mending::Newpage => Err(running::refused(run, Refusal::MoodMissing)),
+        Mending::SetTo(to) => set_to(run, to, text, lines, pages, row),
+        Mending::Backspace => running::backspace(run),
+        Mending::Reset => running::reset(run),
     }
 }
 
@@ -251,27 +208,30 @@ pub fn set_to(
     ensures { outcome result text.new lines.new pages.new ≡ execute row.now (Action.set_to to) (state run lines.old pages.old) text.old }
 {
     if !run.file.rights.set {
-        return running::refused(run, 4);
+        return Err(running::refused(run, Refusal::RightMissing));
     }
     let end = run.end;
     if places::is_before(end, to) {
-        let last = running::moved(run, run.end.page, run.end.line, run.end.character);
-        let word = running::next_word(last, row);
+        let last = running::moved(run, end.page, end.line, end.character);
         let next = running::signalled(last, row);
-        let kind = running::kind_of(word);
-        if kind == 0 {
-            return running::refused_at(next, Event::LogicalEnd, 14);
-        }
-        if kind == 8 {
-            return running::refused_at(next, Event::LogicalEnd, 11);
-        }
-        return perform(next, word, text, lines, pages, row);
+        return match running::next_answer(last, row) {
+            Answer::Default => Err(running::refused_at(
+                next,
+                Event::LogicalEnd,
+                Refusal::LogicalEndMet,
+            )),
+            Answer::Jump => Err(running::refused_at(
+                next,
+                Event::LogicalEnd,
+                Refusal::ProgramJumped,
+            )),
+            Answer::Mend(mending) => perform(next, mending, text, lines, pages, row),
+        };
     }
     let shape = run.file.shape;
     if places::in_bounds(shape, lines, pages, to) {
-        let there = running::moved(run, to.page, to.line, to.character);
-        running::finish(there)
+        Ok(running::moved(run, to.page, to.line, to.character))
     } else {
-        running::refused(run, 6)
+        Err(running::refused(run, Refusal::OutOfRange))
     }
 }

@@ -1,29 +1,32 @@
-// The lines of a source, of any size, one at a time into a lent buffer.
+// The lines of a source, of any size, one at a time in a buffer of fixed size.
 #![tactic(auto)]
 
 ghost use Rattle.std.specs.Prelude.{IfOk, ◌≤◌, ◌+◌, length};
+ghost use Rattle.feed.specs.declared.TheConstants.{CHUNK};
 
 use std::io;
 use std::io::Read;
 
-// How far a chunk of the source that is read is used: from where, up to where it was filled.
-#[derive(Clone, Copy)]
-pub struct Feed {
-    pub from: usize,
-    pub to: usize,
+// How many bytes are read from a source at a time.
+pub const CHUNK: usize = 65536;
+
+// A line of a source, without its line feed: the whole of it, or its start where it is longer than the buffer.
+#[derive(Clone, Copy, Debug, PartialEq, Eq)]
+pub enum Line<'a> {
+    Whole(&'a [u8]),
+    Start(&'a [u8]),
 }
 
-// A byte of the source, where there is one.
-#[derive(Clone, Copy)]
-pub struct Next {
-    pub feed: Feed,
-    pub byte: u8,
-    pub there: bool,
-}
-
-// A source of which nothing is read yet.
-pub fn unread() -> Feed {
-    Feed { from: 0, to: 0 }
+// A source, the chunk of it that was read last with the part that is not used yet, and the line of at most N bytes.
+#[derive(Drop)]
+pub struct Lines<'a, R, const N: usize> {
+    source: &'a mut R,
+    chunk: [u8; CHUNK],
+    from: usize,
+    to: usize,
+    line: [u8; N],
+    ghost used: { from ≤ to },
+    ghost filled: { to ≤ CHUNK },
 }
 
 // Reads until the buffer is full or the source ends: how many bytes now stand at its start.
@@ -31,105 +34,72 @@ pub fn read_full<R: Read>(source: &mut R, buffer: &mut [u8]) -> io::Result<usize
     ensures { IfOk result (λ n. n ≤ length buffer.new) }
 {
     let mut done = 0;
-    for _ in 0..u64::MAX {
-        if buffer.len() <= done {
-            break;
+    while done < buffer.len() {
+        match source.read(&mut buffer[done..])? {
+            0 => break,
+            more => done += more,
         }
-        let n = source.read(&mut buffer[done..])?;
-        if n == 0 {
-            break;
-        }
-        done += n;
     }
     Ok(done)
 }
 
-// The byte at the place that the feed has come to.
-pub fn byte_of(chunk: &[u8], feed: Feed) -> Next {
-    if feed.to <= feed.from {
-        return Next {
-            feed: feed,
-            byte: 0,
-            there: false,
-        };
-    }
-    let i = feed.from;
-    if chunk.len() <= i {
-        return Next {
-            feed: feed,
-            byte: 0,
-            there: false,
-        };
-    }
-    let after = Feed {
-        from: i + 1,
-        to: feed.to,
-    };
-    Next {
-        feed: after,
-        byte: chunk[i],
-        there: true,
-    }
-}
-
-// The next byte of the source; another chunk is read where the last is used up.
-pub fn next_byte<R: Read>(source: &mut R, chunk: &mut [u8], feed: Feed) -> io::Result<Next> {
-    if feed.from < feed.to {
-        return Ok(byte_of(chunk, feed));
-    }
-    let n = read_full(source, chunk)?;
-    let filled = Feed { from: 0, to: n };
-    Ok(byte_of(chunk, filled))
-}
-
-// One byte more of a line; a line that is longer than the buffer counts one more than fits.
-pub fn keep(line: &mut [u8], n: usize, b: u8) -> usize {
-    if n < line.len() {
-        line[n] = b;
-        return n + 1;
-    }
-    line.len() + 1
-}
-
-// A line of the source: how many bytes it has; one more than the buffer's for a longer one. Past the source's end there is none.
-#[derive(Clone, Copy)]
-pub struct Line {
-    pub feed: Feed,
-    pub count: usize,
-    pub there: bool,
-}
-
-// The next line, without its line feed. The loop takes a number of turns that no source uses up.
-pub fn next_line<R: Read>(
-    source: &mut R,
-    chunk: &mut [u8],
-    feed: Feed,
-    line: &mut [u8],
-) -> io::Result<Line> {
-    let mut at = feed;
-    let mut n = 0;
-    for _ in 0..u64::MAX {
-        let next = next_byte(source, chunk, at)?;
-        at = next.feed;
-        if !next.there {
-            return Ok(Line {
-                feed: at,
-                count: n,
-                there: 0 < n,
-            });
+impl<'a, R: Read, const N: usize> Lines<'a, R, N> {
+    // The lines of a source of which nothing is read yet.
+    pub fn new(source: &'a mut R) -> Self {
+        Lines {
+            source,
+            chunk: [0; CHUNK],
+            from: 0,
+            to: 0,
+            line: [0; N],
         }
-        if next.byte == 10 {
-            return Ok(Line {
-                feed: at,
-                count: n,
-                there: true,
-            });
-        }
-        n = keep(line, n, next.byte);
     }
-    Ok(Line {
-        feed: at,
-        count: n,
-        there: false,
-    })
+
+    // Reads another chunk where the last is used up.
+    fn fill(&mut self) -> io::Result<()> {
+        if self.from == self.to {
+            self.from = 0;
+            self.to = 0;
+            self.to = read_full(self.source, &mut self.chunk)?;
+        }
+        Ok(())
+    }
+
+    // The next byte of the source, if there is one.
+    fn next_byte(&mut self) -> io::Result<Option<u8>> {
+        self.fill()?;
+        if self.from == self.to {
+            return Ok(None);
+        }
+        let byte = self.chunk[self.from];
+        self.from += 1;
+        Ok(Some(byte))
+    }
+
+    // Keeps a byte of the line, if there is room for it.
+    fn keep(&mut self, at: usize, byte: u8) {
+        if at < N {
+            self.line[at] = byte;
+        }
+    }
+
+    // The line that has so many bytes.
+    fn line_of(&self, count: usize) -> Line<'_> {
+        match self.line.get(..count) {
+            Some(whole) => Line::Whole(whole),
+            None => Line::Start(&self.line),
+        }
+    }
+
+    // The next line, if there is one. The loop counts the line's bytes, to a number that no source uses up.
+    pub fn next_line(&mut self) -> io::Result<Option<Line<'_>>> {
+        for count in 0..usize::MAX {
+            match self.next_byte()? {
+                None if count == 0 => return Ok(None),
+                None | Some(b'\n') => return Ok(Some(self.line_of(count))),
+                Some(byte) => self.keep(count, byte),
+            }
+        }
+        Ok(None)
+    }
 }

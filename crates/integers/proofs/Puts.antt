@@ -7,9 +7,8 @@ use lib.IntN.{ℤ, pos}
 use lib.ListN.{length, set}
 use lib.Seq.{sets}
 use Rattle.rules.specs.declared.Run.{Run}
-use Rattle.rules.specs.declared.Outcome.{Outcome}
 use Rattle.rules.specs.Book.{character_index, State, state, here, shape_of}
-use Rattle.rules.specs.Step.{Ending, done, ends, outcome, done_by}
+use Rattle.rules.specs.Step.{Ending, done, ends}
 use Rattle.rules.specs.Steps.{room_for, execute}
 use Rattle.rules.specs.Ready.{Ready, Valid}
 use Rattle.rules.specs.Whole.{whole_text}
@@ -42,13 +41,13 @@ module _ (row : List ℕ) (v : ℤ) (s : State) (t : List ℕ) (rd : Ready row (
     stored_as : (s : State) {u : State} → u ≡ stored_by 11 s → u ≡ stored_by (length text) s
     stored_as s e = e ∙ ap (λ (n : ℕ). stored_by n s) (sym (eleven v))
 
-    pub put_here : (here b).character ≡ 1 → {y : Run} {t' l' p' : List ℕ} → state y l' p' ≡ stored_by 11 b → t' ≡ sets t₁ (character_index (shape_of b) (here b)) text → {x : Outcome} → x ≡ done_by y → outcome x t' l' p' ≡ put_text row text s t
-    put_here c hu ht hx = text_here row text s t as_long (whole-printable v (pos 11)) some f c (stored_as b hu) ht hx
+    pub put_here : (here b).character ≡ 1 → {y : Run} {t' l' p' : List ℕ} → state y l' p' ≡ stored_by 11 b → t' ≡ sets t₁ (character_index (shape_of b) (here b)) text → done tt (state y l' p') t' ≡ put_text row text s t
+    put_here c hu ht = text_here row text s t as_long (whole-printable v (pos 11)) some f c (stored_as b hu) ht
 
     module _ (c : (here b).character ≡ 1 → ⊥) {u : State} (hu : u ≡ stored_by 1 b) where
       pub blank_valid : Valid u
       blank_valid = (blank_ready row text s t as_long (whole-printable v (pos 11)) some f c hu refl).valid
 
-      pub put_after : {t₂ : List ℕ} → t₂ ≡ set t₁ (character_index (shape_of b) (here b)) 32 → {z : Run} {t' l' p' : List ℕ} → state z l' p' ≡ stored_by 11 u → t' ≡ sets t₂ (character_index (shape_of u) (here u)) text → {x : Outcome} → x ≡ done_by z
-          → outcome x t' l' p' ≡ put_text row text s t
-      put_after ht hz ht' hx = text_after row text s t as_long (whole-printable v (pos 11)) some f c hu ht (stored_as u hz) ht' hx
+      pub put_after : {t₂ : List ℕ} → t₂ ≡ set t₁ (character_index (shape_of b) (here b)) 32 → {z : Run} {t' l' p' : List ℕ} → state z l' p' ≡ stored_by 11 u → t' ≡ sets t₂ (character_index (shape_of u) (here u)) text
+          → done tt (state z l' p') t' ≡ put_text row text s t
+      put_after ht hz ht' = text_after row text s t as_long (whole-printable v (pos 11)) some f c hu ht (stored_as u hz) ht'

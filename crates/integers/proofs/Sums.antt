@@ -9,33 +9,40 @@ use lib.IntN.{ℤ, pos, neg_ℤ, ◌-ℤ◌, +ℤ_idl}
 use mir.Syntax.{w32}
 use mir.Val.{SFits, to_z, of_z}
 use mir.Facts.{to_z-of_z}
-use Rattle.rules.specs.Calls.{Value, nothing, an_integer, first_digit, with_sign, integer_given, sign_before}
+use Rattle.rules.specs.Calls.{Value, an_integer, first_digit, with_sign, integer_given, sign_before}
 use lib.Seq.{sets}
 use Rattle.rules.specs.Whole.{whole_text}
 use borrow.Author.Tests.{le-leb, lt-leb, leb-true, leb-false, eq-eqb, ne_eqb}
 use Rattle.rules.specs.declared.Run.{Run}
 use Rattle.rules.specs.declared.Event.TheVariants as code
-use Rattle.rules.specs.declared.Outcome.{Outcome}
+use Rattle.rules.specs.declared.Position.{Position}
+use Rattle.rules.specs.declared.EndedCall.{EndedCall}
+use Rattle.rules.specs.declared.Ending as code_ending
+use Rattle.rules.specs.declared.Ending.TheVariants.{Refused, RefusedAt, Stopped}
+use Rattle.rules.specs.declared.Refusal.TheVariants.{BadCharacter}
+use Rattle.rules.specs.declared.Stop.{Stop}
+use Rattle.rules.specs.declared.Stop.TheVariants.{Terminator, LineOver, EndReached, OutputFull}
+use Rattle.rules.specs.declared.Taken.{Taken}
+use Rattle.rules.specs.declared.Given.{Given}
+use Rattle.std.specs.Prelude.{Result, Err, IsErrAnd}
+use Rattle.laws.specs.Given.{given_out}
 use Rattle.rules.specs.Book.{choose, within, next_character, character_index, State, state, on_run, here, shape_of, moved_to, row_fits, Event}
-use Rattle.rules.specs.Step.{ending_by, Out, done, ends, refusal_at, going, outcome_giving, outcome, refused_at, done_by}
-use Rattle.rules.specs.Steps.{good_line, pass_blanks, more_digits, digit, character_event, measure, execute}
+use Rattle.rules.specs.Step.{Ending, Out, done, ends, ◌>>=◌, pure, refusal_at, ended_by, ending_as, stop_number, outcome_giving, refused_at}
+use Rattle.rules.specs.Steps.{is_stop, good_line, pass_blanks, more_digits, digit, character_event, measure, execute}
 use Rattle.rules.specs.Ready.{Ready, Valid}
 use Rattle.laws.specs.Capped.{capped, with_cap}
-use Rattle.laws.specs.Given.{given_out}
 use Rattle.places.specs.Good.{line_good}
 use Rattle.lines.proofs.Good.{good_back}
 use Rattle.laws.proofs.Entry.{row_short, ready_any, gain_events, answered_events}
 use Rattle.laws.proofs.Unfolding.{On}
-use Rattle.integers.specs.declared.Found.{Found}
 use lib.ListN.{length, get_or}
 use Rattle.laws.proofs.Order.{split}
 use Rattle.laws.proofs.Progress.{Done, Site, ready_as, ready_on, gain_less, from_gain}
-use Rattle.laws.proofs.Ways.{halted, hands_none, from_later, post_done_of, done_of}
-use Rattle.laws.proofs.Numbers.{first_post, sign_post, given_there, capped_more, capped_stays, more_line, more_stops, more_ends, more_from, more_stays, more_again, more_on}
-use Rattle.laws.proofs.Given.{given_nothing}
-use Rattle.laws.proofs.Gets.{passed}
+use Rattle.laws.proofs.Ways.{handed_up, bind_done, bind_ends, from_later, post_done_of, done_of}
+use Rattle.laws.proofs.Numbers.{first_post, sign_post, sign_shown, sign_none, given_there, capped_more, capped_stays, more_line, more_stops, more_ends, more_from, more_stays, more_again, more_on}
+use Rattle.laws.proofs.Gets.{passed, passed_then}
 use Rattle.laws.proofs.Runs.{both_true}
-use Rattle.integers.specs.Values.{next_value, nothing_found}
+use Rattle.integers.specs.Values.{next_value}
 
 -- ---- a digit
 
@@ -66,8 +73,8 @@ above_next n h = sym (ap (λ (x : Bool). choose x n 2147483648) (lt-leb n 214748
 pub event_from : (row : List ℕ) (s : State) (t : List ℕ) {y : Run} → y ≡ moved_to s.run (next_character (here s)) → {x : Out ℕ} → x ≡ character_event row (execute row) true 48 (on_run s y) t → x ≡ character_event row (execute row) true 48 (passed s) t
 event_from row s t hy h = h ∙ ap (λ (r : Run). character_event row (execute row) true 48 (on_run s r) t) hy
 
-pub gives_refused : {A : Type 0} (a : A) {r : Run} {o : Outcome} {t l p : List ℕ} → o ≡ refused_at r code.Character 8 → outcome_giving a o t l p ≡ ends (refusal_at Event.character r.file.position 8) (state r l p) t
-gives_refused a {r} {o} {t} {l} {p} h = ap (λ (x : Outcome). outcome_giving a x t l p) h
+pub gives_refused : {r : Run} {e : EndedCall} {t l p : List ℕ} → e ≡ refused_at r code.Character BadCharacter → outcome_giving {A = ℕ} (Err e) t l p ≡ ends (refusal_at Event.character r.file.position 8) (state r l p) t
+gives_refused {t = t} {l = l} {p = p} h = ap (λ (x : EndedCall). outcome_giving (Err x) t l p) h
 
 -- the text of an integer, at its place
 pub text_of : (l : List ℕ) {i j : ℕ} → i ≡ j → {z v : ℤ} → z ≡ v → {l' : List ℕ} → l' ≡ sets l i (whole_text z (pos 11)) → l' ≡ sets l j (whole_text v (pos 11))
@@ -117,6 +124,18 @@ next_capped n d = split (leb (capped n) 2147483647)
     let m : capped n ≡ 2147483648 = omega (arith, capped_le n, k) in
     ap (λ (x : Bool). choose x (capped n * 10 + d) 2147483648) (lt-leb (capped n * 10 + d) 2147483647 (omega (arith, k))) ∙ sym m ∙ sym (capped_stays n d k))
 
+-- whether an ending of the code is a stop
+a_stop : (x : Stop) → not (eqb (stop_number x) 0) ≡ true
+a_stop Terminator = refl
+a_stop LineOver = refl
+a_stop EndReached = refl
+a_stop OutputFull = refl
+
+no_stop : (e : code_ending.Ending) (x : Position) → ((s : Stop) → e ≡ Stopped s → ⊥) → is_stop (ending_as e x) ≡ false
+no_stop (Refused r) x n = refl
+no_stop (RefusedAt event r) x n = refl
+no_stop (Stopped s) x n = absurd (n s refl)
+
 pub record Summing (row : List ℕ) (first : ℕ) (s₀ : State) (t₀ : List ℕ) (value : ℕ) (s : State) (t : List ℕ) : Type 0 where
   pub exact : ℕ
   pub ready : Ready row (more_digits exact) s
@@ -134,21 +153,20 @@ module _ {row : List ℕ} {first : ℕ} {s₀ : State} {t₀ : List ℕ} {value 
   summing_line = more_line row m.exact s t m.ready
 
   -- an ending that is no stop, and one that is
-  pub summing_halts : (o : Outcome) (t' l p : List ℕ) → outcome o t' l p ≡ execute row (good_line true true) s t → going o.status ≡ false → o.status.stop ≡ 0 → outcome_giving value o t' l p ≡ with_cap (execute row (more_digits first) s₀ t₀)
-  summing_halts o t' l p c g z = hands_none value o (ap with_cap (m.same ∙ more_ends row m.exact s t m.ready (halted o c g) (ap not (eq-eqb o.status.stop 0 z)))) g
+  module _ {d : EndedCall} {t' l p : List ℕ} (f : execute row (good_line true true) s t ≡ ends (ended_by d) (state d.run l p) t') where
+    pub summing_halts : ((x : Stop) → d.ending ≡ Stopped x → ⊥) → outcome_giving (Err d) t' l p ≡ with_cap (execute row (more_digits first) s₀ t₀)
+    summing_halts n = sym (ap with_cap (m.same ∙ more_ends row m.exact s t m.ready f (no_stop d.ending d.run.file.position n)))
 
-  gives_value : (u : State) (t' : List ℕ) → execute row (more_digits m.exact) s t ≡ done m.exact u t' → {x : Outcome} → x ≡ done_by u.run → outcome_giving value x t' u.lengths.lines u.lengths.pages ≡ with_cap (execute row (more_digits first) s₀ t₀)
-  gives_value u t' h {x} hx = ap (λ (o : Outcome). outcome_giving value o t' u.lengths.lines u.lengths.pages) hx ∙ ap (λ (n : ℕ). done n u t') m.value_is ∙ sym (ap with_cap (m.same ∙ h))
-
-  pub summing_stops : (o : Outcome) (t' l p : List ℕ) → outcome o t' l p ≡ execute row (good_line true true) s t → going o.status ≡ false → (o.status.stop ≡ 0 → ⊥) → {x : Outcome} → x ≡ done_by o.run → outcome_giving value x t' l p ≡ with_cap (execute row (more_digits first) s₀ t₀)
-  summing_stops o t' l p c g z hx = gives_value (state o.run l p) t' (more_stops row m.exact s t m.ready (halted o c g) (ap not (ne_eqb o.status.stop 0 z))) hx
+    pub summing_stops : {x : Stop} → d.ending ≡ Stopped x → done value (state d.run l p) t' ≡ with_cap (execute row (more_digits first) s₀ t₀)
+    summing_stops {x} z = ap (λ (n : ℕ). done n (state d.run l p) t') m.value_is
+        ∙ sym (ap with_cap (m.same ∙ more_stops row m.exact s t m.ready f (ap (λ (e : code_ending.Ending). is_stop (ending_as e d.run.file.position)) z ∙ a_stop x)))
 
   module _ {b : State} {t₁ : List ℕ} (f : execute row (good_line true true) s t ≡ done tt b t₁) {c : ℕ} (e : c ≡ get_or t₁ (character_index (shape_of b) (here b)) 0) where
     pub summing_valid : Valid b
     summing_valid = (more_from row m.exact s t m.ready f e).ready.valid
 
-    pub summing_stays : digit c ≡ false → {x : Outcome} → x ≡ done_by b.run → outcome_giving value x t₁ b.lengths.lines b.lengths.pages ≡ with_cap (execute row (more_digits first) s₀ t₀)
-    summing_stays h hx = gives_value b t₁ (more_stays row m.exact s t m.ready f e h) hx
+    pub summing_stays : digit c ≡ false → done value b t₁ ≡ with_cap (execute row (more_digits first) s₀ t₀)
+    summing_stays h = ap (λ (n : ℕ). done n b t₁) m.value_is ∙ sym (ap with_cap (m.same ∙ more_stays row m.exact s t m.ready f e h))
 
     module _ (h : digit c ≡ true) {y : Run} (hy : y ≡ moved_to b.run (next_character (here b))) where
       summing_site : Site row (more_digits m.exact) s (more_digits (m.exact * 10 + (c - 48))) (on_run b y)
@@ -167,35 +185,51 @@ module _ {row : List ℕ} {first : ℕ} {s₀ : State} {t₀ : List ℕ} {value 
 
 -- ---- signs
 
-pub is_plus : (c : ℕ) → c ≡ 43 → (eqb c 43 || eqb c 45) ≡ true
-is_plus c e = rw (eq-eqb c 43 e)
+module _ (row : List ℕ) (s : State) (t : List ℕ) {b : State} {t₁ : List ℕ} (f : execute row pass_blanks s t ≡ done tt b t₁) {c : ℕ} (e : c ≡ get_or t₁ (character_index (shape_of b) (here b)) 0)
+    {y : Run} (hy : y ≡ choose (eqb c 43 || eqb c 45) (moved_to b.run (next_character (here b))) b.run) where
+  -- past a sign, or where none stands
+  pub sign_passed : sign_before row s t ≡ (execute row pass_blanks >>= λ _. pure (eqb c 45)) (on_run b y) t₁
+  sign_passed = split (eqb c 43 || eqb c 45)
+      (λ g. sign_shown row s t f e g (hy ∙ ap (λ (x : Bool). choose x (moved_to b.run (next_character (here b))) b.run) g))
+      (λ g. sign_none row s t f e g ∙ ap (λ (r : Run). (execute row pass_blanks >>= λ _. pure (eqb c 45)) (on_run b r) t₁) (sym (hy ∙ ap (λ (x : Bool). choose x (moved_to b.run (next_character (here b))) b.run) g)))
 
-pub is_minus : (c : ℕ) → (c ≡ 43 → ⊥) → c ≡ 45 → (eqb c 43 || eqb c 45) ≡ true
-is_minus c z e = rw (ne_eqb c 43 z, eq-eqb c 45 e)
+  pub sign_halts : {x : Ending} {u : State} {t' : List ℕ} → execute row pass_blanks (on_run b y) t₁ ≡ ends x u t' → sign_before row s t ≡ ends x u t'
+  sign_halts h = sign_passed ∙ bind_ends _ _ (on_run b y) t₁ h
 
-pub is_neither : (c : ℕ) → (c ≡ 43 → ⊥) → (c ≡ 45 → ⊥) → (eqb c 43 || eqb c 45) ≡ false
-is_neither c z w = rw (ne_eqb c 43 z, ne_eqb c 45 w)
+  pub sign_gives : {u : State} {t' : List ℕ} → execute row pass_blanks (on_run b y) t₁ ≡ done tt u t' → sign_before row s t ≡ done (eqb c 45) u t'
+  unfolding pure
+  sign_gives h = sign_passed ∙ bind_done _ _ (on_run b y) t₁ h
+
+  pub sign_ready : Ready row pass_blanks s → Ready row pass_blanks (on_run b y)
+  sign_ready rd =
+      let d = done_of row pass_blanks t rd f in
+      let rb = (from_gain b rd d.valid d.took d.claim.0).ready in
+      split (eqb c 43 || eqb c 45)
+      (λ g. passed_then rb d.claim.1 (hy ∙ ap (λ (x : Bool). choose x (moved_to b.run (next_character (here b))) b.run) g))
+      (λ g. subst (λ (r : Run). Ready row pass_blanks (on_run b r)) (sym (hy ∙ ap (λ (x : Bool). choose x (moved_to b.run (next_character (here b))) b.run) g)) rb)
 
 -- ---- what is given
+
+-- what `?` hands up
+pub given_up : {t l p : List ℕ} (d : EndedCall) {x : Out Value} (o : Result (Taken Given) EndedCall) → IsErrAnd o (λ y. y ≡ d) → x ≡ ends (ended_by d) (state d.run l p) t → given_out o t l p ≡ x
+given_up {t} {l} {p} d o h e = ap (λ (y : Result (Taken Given) EndedCall). given_out y t l p) (handed_up o h) ∙ sym e
+
+pub given_as : {t l p : List ℕ} {d e : EndedCall} → d ≡ e → given_out (Err d) t l p ≡ given_out (Err e) t l p
+given_as {t} {l} {p} h = ap (λ (x : EndedCall). given_out (Err x) t l p) h
 
 abbrev state_of : Out ℕ → State
 state_of (done n s t) = s
 state_of (ends e s t) = s
-
-pub nothing_out : (o : Outcome) (t l p : List ℕ) {r : Found} → r ≡ nothing_found o → given_out r.run r.given t l p ≡ outcome_giving nothing o t l p
-nothing_out o t l p h = ap (λ (f : Found). given_out f.run f.given t l p) h ∙ given_nothing o t l p
-
-pub nothing_ends : (o : Outcome) (t l p : List ℕ) {r : Found} → r ≡ nothing_found o → going o.status ≡ false → {x : Out Value} → x ≡ ends (ending_by o) (state o.run l p) t → given_out r.run r.given t l p ≡ x
-nothing_ends o t l p h g e = nothing_out o t l p h ∙ hands_none nothing o e g
-
-pub nothing_refused : {u : Run} {o : Outcome} {t l p : List ℕ} {r : Found} → o ≡ refused_at u code.Value 9 → r ≡ nothing_found o → given_out r.run r.given t l p ≡ ends (refusal_at Event.value u.file.position 9) (state u l p) t
-nothing_refused {u} {o} {t} {l} {p} e h = nothing_out o t l p h ∙ ap (λ (x : Outcome). outcome_giving nothing x t l p) e
 
 pub integer_out : (row : List ℕ) (minus : Bool) {n : ℕ} (s : State) (t : List ℕ) {v : ℤ} → n ≤ 2147483647 → v ≡ with_sign minus n → done (an_integer (to_z w32 (of_z w32 v))) s t ≡ integer_given row minus n s t
 integer_out row minus {n} s t {v} h e =
     ap (λ (z : ℤ). done (an_integer z) s t) (to_z-of_z {w = w32} (subst (SFits w32) (sym e) (signed_fits minus n h)) ∙ e) ∙ sym (given_there row minus n s t h)
 
 -- ---- the steps of a get of an integer, one after another
+
+-- the digits from another number that is the same
+pub sum_from : (row : List ℕ) {n m : ℕ} → n ≡ m → (s : State) (t : List ℕ) {x : Out ℕ} → with_cap (execute row (more_digits n) s t) ≡ x → with_cap (execute row (more_digits m) s t) ≡ x
+sum_from row e s t h = ap (λ (k : ℕ). with_cap (execute row (more_digits k) s t)) (sym e) ∙ h
 
 module _ (row : List ℕ) (s : State) (t : List ℕ) (rd : Ready row pass_blanks s) (fits : T (row_fits row)) (few : s.run.events ≤ 2 ^ 40) {minus : Bool} {b : State} {t₁ : List ℕ} (f : sign_before row s t ≡ done minus b t₁) where
   sign_done : Done row pass_blanks s b

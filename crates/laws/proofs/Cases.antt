@@ -11,15 +11,18 @@ use Rattle.rules.specs.declared.Position.{Position}
 use Rattle.rules.specs.declared.Run.{Run}
 use Rattle.rules.specs.declared.Event as code
 use Rattle.rules.specs.declared.Event.TheVariants.{LogicalEnd, PageEnd}
-use Rattle.rules.specs.declared.Outcome.{Outcome}
-use Rattle.rules.specs.Book.{choose, before, in_bounds, next_line, next_page, previous_character, State, state, on_run, here, end_of, shape_of, rights_of, moved_to, in_mood, with_file, rewound, kind_of, place_of, character_of, mending_of, logical_end, page_end, Answer, Mending}
-use Rattle.rules.specs.Step.{Ending, Out, done, ends, Step, ◌>>=◌, pure, halt, refuse_at, refusal, stopped, change, branch, need, outcome, going, event_as, status_of, done_by, refused_by, refused_at, stopped_by, file_ended, page_ended, on_end_line, again, go_to, signal, mood_on, backspace, reset, end_line, end_page}
+use Rattle.rules.specs.declared.EndedCall.{EndedCall}
+use Rattle.rules.specs.declared.Refusal.{Refusal}
+use Rattle.rules.specs.declared.Refusal.TheVariants.{RightMissing, MoodMissing, OutOfRange, ProgramJumped, LogicalEndMet}
+use Rattle.rules.specs.declared.Stop.TheVariants.{EndReached}
+use Rattle.std.specs.Prelude.{Ok, Err}
+use Rattle.rules.specs.Book.{choose, before, in_bounds, next_line, next_page, previous_character, State, state, on_run, here, end_of, shape_of, rights_of, moved_to, in_mood, with_file, rewound, logical_end, page_end, Answer, is_false, jump, is_true, Mending}
+use Rattle.rules.specs.Step.{Ending, Out, done, ends, Step, ◌>>=◌, pure, halt, refuse_at, refusal, stopped, change, branch, need, outcome, event_as, done_by, refused_by, refused_at, stopped_by, file_ended, page_ended, on_end_line, again, go_to, signal, mood_on, backspace, reset, end_line, end_page, Outcome, refusal_number}
 use Rattle.rules.specs.Steps.{Action, good_file, good_page, at_page_end, newline, newpage, set_to, perform, answered, file_end, file_end_number, signals, signal_while, upon, good_file_body, good_page_body, at_page_end_body, newline_body, newpage_body, set_to_body, perform_body, answered_body, body, stage, execute}
-use Rattle.laws.specs.Follow.{followed}
 use Rattle.laws.proofs.Validity.{to_end, end_valid, end_further}
 use Rattle.laws.proofs.Progress.{Gain, Ready, FileGood, Done, Site, site_lower, gain_less, moved_gain, From, from_gain, heard, answer}
 use Rattle.laws.proofs.Unfolding.{On, unfold_execute}
-use Rattle.laws.proofs.Ways.{bind_done, bind_ends, branch_true, branch_false, test_true, test_false, need_true, need_false, change_then, signal_then, outcome_at, outcome_is, hands_on, done_of, Asked, is_false_lem, is_jump, is_true_lem, after_event, from_lower, refuse_as, signals_default, signals_followed, while_stays, while_ends, while_again}
+use Rattle.laws.proofs.Ways.{bind_done, bind_ends, branch_true, branch_false, test_true, test_false, need_true, need_false, change_then, signal_then, outcome_at, outcome_is, done_of, Asked, answer_is, after_event, from_lower, refuse_as, signals_default, signals_jumps, signals_answered, while_stays, while_ends, while_again, ending_is}
 
 -- ---- a good step: an inner one, and then events while a test holds
 
@@ -39,11 +42,6 @@ module _ (self inner event : Step (Unit {0})) (ended : State → Bool) (s : Stat
 
 -- ---- good file
 
--- neither refusal of good file goes on
-file_refuses : (r : Bool) (event : code.Event) → going (status_of (file_end_number r) 0 event) ≡ false
-file_refuses true event = refl
-file_refuses false event = refl
-
 module _ (row : List ℕ) (r w : Bool) (s : State) (t : List ℕ) (rd : Ready row (good_file r w) s) where
   abbrev file_default : Step Unit
   file_default = branch w (halt (stopped 3)) (refuse_at (file_end r) (file_end_number r))
@@ -55,24 +53,27 @@ module _ (row : List ℕ) (r w : Bool) (s : State) (t : List ℕ) (rd : Ready ro
   pub good_file_stays : {x : Outcome} → file_ended r s.run ≡ false → x ≡ done_by s.run → outcome_at x s t ≡ execute row (good_file r w) s t
   good_file_stays e h = outcome_is s t h ∙ sym (law_good_file ∙ while_stays _ _ _ s t e)
 
-  module _ (e : file_ended r s.run ≡ true) {c k : ℕ} {u : Run} (q : Asked row s c k u) where
-    default_ends : k ≡ 0 → {x : Ending} → file_default (on_run s u) t ≡ ends x (on_run s u) t → execute row (good_file r w) s t ≡ ends x (on_run s u) t
+  module _ (e : file_ended r s.run ≡ true) {a : Answer} {u : Run} (q : Asked row s a u) where
+    default_ends : a ≡ is_false → {x : Ending} → file_default (on_run s u) t ≡ ends x (on_run s u) t → execute row (good_file r w) s t ≡ ends x (on_run s u) t
     default_ends z h = law_good_file ∙ while_ends _ _ _ s t e (signals_default row (file_end r) r file_default t q z ∙ h)
 
-    pub good_file_stops : {x : Outcome} → k ≡ 0 → w ≡ true → x ≡ stopped_by u 3 → outcome_at x s t ≡ execute row (good_file r w) s t
+    pub good_file_stops : {x : EndedCall} → a ≡ is_false → w ≡ true → x ≡ stopped_by u EndReached → outcome_at (Err x) s t ≡ execute row (good_file r w) s t
     unfolding halt
-    good_file_stops z y h = outcome_is s t h ∙ sym (default_ends z (branch_true _ _ (on_run s u) t y))
+    good_file_stops z y h = ending_is s t h ∙ sym (default_ends z (branch_true _ _ (on_run s u) t y))
 
-    pub good_file_refuses : {x : Outcome} {event : code.Event} {n : ℕ} → k ≡ 0 → w ≡ false → event ≡ event_as (file_end r) → n ≡ file_end_number r → x ≡ refused_at u event n → outcome_at x s t ≡ execute row (good_file r w) s t
+    pub good_file_refuses : {x : EndedCall} {event : code.Event} {n : Refusal} → a ≡ is_false → w ≡ false → event ≡ event_as (file_end r) → refusal_number n ≡ file_end_number r → x ≡ refused_at u event n → outcome_at (Err x) s t ≡ execute row (good_file r w) s t
     unfolding halt
-    good_file_refuses {event = event} z y i j h = outcome_is s t (h ∙ ap (λ (m : ℕ). refused_at u event m) j)
-        ∙ hands_on (refused_at u event (file_end_number r)) (default_ends z (branch_false _ _ (on_run s u) t y ∙ sym (refuse_as (file_end r) (file_end_number r) (on_run s u) t i))) (file_refuses r event)
+    good_file_refuses {event = event} {n = n} z y i j h = ending_is s t h ∙ sym (default_ends z (branch_false _ _ (on_run s u) t y ∙ sym (refuse_as n (file_end r) (file_end_number r) (on_run s u) t i j)))
 
-    pub good_file_ends : (k ≡ 0 → ⊥) → {event : code.Event} → event ≡ event_as (file_end r) → {x : Ending} {v : State} {t' : List ℕ} → followed row event r c (on_run s u) t ≡ ends x v t' → execute row (good_file r w) s t ≡ ends x v t'
-    good_file_ends z i h = law_good_file ∙ while_ends _ _ _ s t e (signals_followed row (file_end r) r file_default t q z i ∙ h)
+    pub good_file_jumps : {x : EndedCall} {event : code.Event} → a ≡ jump → event ≡ event_as (file_end r) → x ≡ refused_at u event ProgramJumped → outcome_at (Err x) s t ≡ execute row (good_file r w) s t
+    unfolding halt
+    good_file_jumps z i h = ending_is s t h ∙ sym (law_good_file ∙ while_ends _ _ _ s t e (signals_jumps row (file_end r) r file_default t q z i))
 
-    pub good_file_again : (k ≡ 0 → ⊥) → {event : code.Event} → event ≡ event_as (file_end r) → {v : State} {t' : List ℕ} → followed row event r c (on_run s u) t ≡ done tt v t' → execute row (good_file r w) s t ≡ execute row (good_file r w) v t'
-    good_file_again z i h = law_good_file ∙ while_again _ _ _ s t e (signals_followed row (file_end r) r file_default t q z i ∙ h)
+    pub good_file_ends : {m : Mending} → a ≡ is_true m → {x : Ending} {v : State} {t' : List ℕ} → execute row (answered r m) (on_run s u) t ≡ ends x v t' → execute row (good_file r w) s t ≡ ends x v t'
+    good_file_ends z h = law_good_file ∙ while_ends _ _ _ s t e (signals_answered row (file_end r) r file_default t q z ∙ h)
+
+    pub good_file_again : {m : Mending} → a ≡ is_true m → {v : State} {t' : List ℕ} → execute row (answered r m) (on_run s u) t ≡ done tt v t' → execute row (good_file r w) s t ≡ execute row (good_file r w) v t'
+    good_file_again z h = law_good_file ∙ while_again _ _ _ s t e (signals_answered row (file_end r) r file_default t q z ∙ h)
 
 -- ---- good page, and the event at a page's end
 
@@ -91,16 +92,20 @@ module _ (row : List ℕ) (r w : Bool) (s : State) (t : List ℕ) (rd : Ready ro
     pub good_page_on : {v : State} {t' : List ℕ} → execute row (at_page_end r) b t₁ ≡ done tt v t' → On row b v
     good_page_on h = let d = done_of row (at_page_end r) t₁ (from_lower good_page_from (at_page_end r) (omega arith)).0 h in record { valid = d.valid; took = d.took; gain = d.claim }
 
-module _ (row : List ℕ) (r : Bool) (s : State) (t : List ℕ) (rd : Ready row (at_page_end r) s) {c k : ℕ} {u : Run} (q : Asked row s c k u) where
+module _ (row : List ℕ) (r : Bool) (s : State) (t : List ℕ) (rd : Ready row (at_page_end r) s) {a : Answer} {u : Run} (q : Asked row s a u) where
   law_page_end : execute row (at_page_end r) s t ≡ signals row (execute row) page_end r (execute row (newpage r)) s t
   unfolding body at_page_end_body
   law_page_end = unfold_execute row (at_page_end r) s t rd
 
-  pub page_end_default : k ≡ 0 → {z : Out (Unit {0})} → z ≡ execute row (newpage r) (on_run s u) t → z ≡ execute row (at_page_end r) s t
+  pub page_end_default : a ≡ is_false → {z : Out (Unit {0})} → z ≡ execute row (newpage r) (on_run s u) t → z ≡ execute row (at_page_end r) s t
   page_end_default y g = g ∙ sym (law_page_end ∙ signals_default row page_end r _ t q y)
 
-  pub page_end_follows : (k ≡ 0 → ⊥) → {z : Out (Unit {0})} → z ≡ followed row PageEnd r c (on_run s u) t → z ≡ execute row (at_page_end r) s t
-  page_end_follows y g = g ∙ sym (law_page_end ∙ signals_followed row page_end r _ t q y refl)
+  pub page_end_jumps : a ≡ jump → {x : EndedCall} → x ≡ refused_at u PageEnd ProgramJumped → outcome_at (Err x) s t ≡ execute row (at_page_end r) s t
+  unfolding halt
+  page_end_jumps y h = ending_is s t h ∙ sym (law_page_end ∙ signals_jumps row page_end r _ t q y refl)
+
+  pub page_end_answered : {m : Mending} → a ≡ is_true m → {z : Out (Unit {0})} → z ≡ execute row (answered r m) (on_run s u) t → z ≡ execute row (at_page_end r) s t
+  page_end_answered y g = g ∙ sym (law_page_end ∙ signals_answered row page_end r _ t q y)
 
 -- ---- newline: b is what good page gave, y the running call at the logical end
 
@@ -188,24 +193,20 @@ module _ (row : List ℕ) (r : Bool) (s : State) (t : List ℕ) (rd : Ready row 
 
 -- ---- what follows a true answer
 
-module _ (row : List ℕ) (event : code.Event) (r : Bool) (w : ℕ) (s : State) (t : List ℕ) (rd : Ready row (answered r (mending_of w)) s) {k : ℕ} (i : k ≡ kind_of w) where
-  pub follow_perform : Site row (answered r (mending_of w)) s (perform (mending_of w)) s
-  follow_perform = site_lower row (answered r (mending_of w)) s rd (perform (mending_of w)) (omega arith)
+module _ (row : List ℕ) (r : Bool) (m : Mending) (s : State) (t : List ℕ) (rd : Ready row (answered r m) s) where
+  pub answered_perform : Site row (answered r m) s (perform m) s
+  answered_perform = site_lower row (answered r m) s rd (perform m) (omega arith)
 
-  pub follow_jumps : k ≡ 8 → {x : Outcome} → x ≡ refused_at s.run event 11 → outcome_at x s t ≡ followed row event r w s t
-  unfolding halt
-  follow_jumps j h = outcome_is s t h ∙ sym (branch_true _ _ s t (eq-eqb (kind_of w) 8 (sym i ∙ j)))
-
-  law_followed : (k ≡ 8 → ⊥) → followed row event r w s t ≡ (execute row (perform (mending_of w)) >>= λ _. again r) s t
+  law_answered : execute row (answered r m) s t ≡ (execute row (perform m) >>= λ _. again r) s t
   unfolding body answered_body
-  law_followed j = branch_false _ _ s t (ne_eqb (kind_of w) 8 (λ h. j (i ∙ h))) ∙ unfold_execute row (answered r (mending_of w)) s t rd
+  law_answered = unfold_execute row (answered r m) s t rd
 
-  pub follow_ends : (k ≡ 8 → ⊥) → {x : Ending} {u : State} {t' : List ℕ} → execute row (perform (mending_of w)) s t ≡ ends x u t' → followed row event r w s t ≡ ends x u t'
-  follow_ends j h = law_followed j ∙ bind_ends _ _ s t h
+  pub answered_ends : {x : Ending} {u : State} {t' : List ℕ} → execute row (perform m) s t ≡ ends x u t' → execute row (answered r m) s t ≡ ends x u t'
+  answered_ends h = law_answered ∙ bind_ends _ _ s t h
 
-  pub follow_done : (k ≡ 8 → ⊥) → {u : State} {t' : List ℕ} → execute row (perform (mending_of w)) s t ≡ done tt u t' → {y : Run} {x : Outcome} → y ≡ in_mood u.run r → x ≡ done_by y → outcome_at x u t' ≡ followed row event r w s t
+  pub answered_done : {u : State} {t' : List ℕ} → execute row (perform m) s t ≡ done tt u t' → {y : Run} {x : Outcome} → y ≡ in_mood u.run r → x ≡ done_by y → outcome_at x u t' ≡ execute row (answered r m) s t
   unfolding change
-  follow_done j {u} {t'} h e g = outcome_is u t' (g ∙ ap done_by e) ∙ sym (law_followed j ∙ bind_done _ _ s t h)
+  answered_done {u} {t'} h e g = outcome_is u t' (g ∙ ap done_by e) ∙ sym (law_answered ∙ bind_done _ _ s t h)
 
 -- ---- backspace and reset
 
@@ -226,25 +227,15 @@ module _ (s : State) (t : List ℕ) where
   unfolding reset
   reset_refused e = sym (need_false 4 _ _ s t e)
 
--- ---- the performing of an answer, by its kind
+-- ---- the performing of an answer, by its case
 
-mending : ℕ → ℕ → Mending
-mending w k = choose (eqb k 2) Mending.newline (choose (eqb k 3) Mending.newpage (choose (eqb k 4) (Mending.set_to (place_of w)) (choose (eqb k 5) Mending.backspace (choose (eqb k 6) Mending.reset (choose (eqb k 7) (Mending.suggest (character_of w)) Mending.nothing)))))
+module _ (row : List ℕ) (m : Mending) (s : State) (t : List ℕ) (rd : Ready row (perform m) s) where
+  pub perform_lower : (action : Action) → stage action < 8 → Site row (perform m) s action s
+  perform_lower action h = site_lower row (perform m) s rd action h
 
-mending_is : (w k : ℕ) → k ≡ kind_of w → mending_of w ≡ mending w k
-unfolding mending_of mending
-mending_is w k h = ap (mending w) (sym h)
-
-module _ (row : List ℕ) (w : ℕ) (s : State) (t : List ℕ) (rd : Ready row (perform (mending_of w)) s) {k : ℕ} (i : k ≡ kind_of w) where
-  pub perform_lower : (action : Action) → stage action < 8 → Site row (perform (mending_of w)) s action s
-  perform_lower action h = site_lower row (perform (mending_of w)) s rd action h
-
-  law_perform : (m : Mending) → mending_of w ≡ m → execute row (perform (mending_of w)) s t ≡ perform_body row (execute row) m s t
+  law_perform : {x : Mending} → m ≡ x → execute row (perform m) s t ≡ perform_body row (execute row) x s t
   unfolding body
-  law_perform m e = unfold_execute row (perform (mending_of w)) s t rd ∙ ap (λ (x : Mending). perform_body row (execute row) x s t) e
-
-  by_kind : (n : ℕ) (m : Mending) → mending w n ≡ m → k ≡ n → execute row (perform (mending_of w)) s t ≡ perform_body row (execute row) m s t
-  by_kind n m e h = law_perform m (mending_is w n (sym h ∙ i) ∙ e)
+  law_perform e = unfold_execute row (perform m) s t rd ∙ ap (λ (x : Mending). perform_body row (execute row) x s t) e
 
   mood_reading : {A : Type 0} (g : Bool → Step A) → s.run.file.reading ≡ true → (mood_on >>= g) s t ≡ g true s t
   unfolding mood_on pure
@@ -259,64 +250,61 @@ module _ (row : List ℕ) (w : ℕ) (s : State) (t : List ℕ) (rd : Ready row (
   mood_none g e f = bind_ends mood_on g s t (test_false _ _ _ s t e ∙ test_false _ _ _ s t f)
 
   abbrev Performs : Out (Unit {0}) → Type 0
-  Performs z = z ≡ execute row (perform (mending_of w)) s t
+  Performs z = z ≡ execute row (perform m) s t
 
-  law_kind_newline : k ≡ 2 → execute row (perform (mending_of w)) s t ≡ (mood_on >>= λ reading. execute row (newline reading)) s t
-  unfolding perform_body mending
-  law_kind_newline h = by_kind 2 Mending.newline refl h
+  law_newline_answer : m ≡ Mending.newline → execute row (perform m) s t ≡ (mood_on >>= λ reading. execute row (newline reading)) s t
+  unfolding perform_body
+  law_newline_answer h = law_perform h
 
-  law_kind_newpage : k ≡ 3 → execute row (perform (mending_of w)) s t ≡ (mood_on >>= λ reading. execute row (newpage reading)) s t
-  unfolding perform_body mending
-  law_kind_newpage h = by_kind 3 Mending.newpage refl h
+  law_newpage_answer : m ≡ Mending.newpage → execute row (perform m) s t ≡ (mood_on >>= λ reading. execute row (newpage reading)) s t
+  unfolding perform_body
+  law_newpage_answer h = law_perform h
 
-  pub perform_newline_reading : k ≡ 2 → s.run.file.reading ≡ true → {z : Out (Unit {0})} → z ≡ execute row (newline true) s t → Performs z
-  perform_newline_reading h e g = g ∙ sym (law_kind_newline h ∙ mood_reading _ e)
+  pub perform_newline_reading : m ≡ Mending.newline → s.run.file.reading ≡ true → {z : Out (Unit {0})} → z ≡ execute row (newline true) s t → Performs z
+  perform_newline_reading h e g = g ∙ sym (law_newline_answer h ∙ mood_reading _ e)
 
-  pub perform_newline_writing : k ≡ 2 → s.run.file.reading ≡ false → s.run.file.writing ≡ true → {z : Out (Unit {0})} → z ≡ execute row (newline false) s t → Performs z
-  perform_newline_writing h e f g = g ∙ sym (law_kind_newline h ∙ mood_writing _ e f)
+  pub perform_newline_writing : m ≡ Mending.newline → s.run.file.reading ≡ false → s.run.file.writing ≡ true → {z : Out (Unit {0})} → z ≡ execute row (newline false) s t → Performs z
+  perform_newline_writing h e f g = g ∙ sym (law_newline_answer h ∙ mood_writing _ e f)
 
-  pub perform_newline_moodless : k ≡ 2 → s.run.file.reading ≡ false → s.run.file.writing ≡ false → {x : Outcome} → x ≡ refused_by s.run 5 → Performs (outcome_at x s t)
-  perform_newline_moodless h e f g = outcome_is s t g ∙ sym (law_kind_newline h ∙ mood_none _ e f)
+  pub perform_newline_moodless : m ≡ Mending.newline → s.run.file.reading ≡ false → s.run.file.writing ≡ false → {x : EndedCall} → x ≡ refused_by s.run MoodMissing → Performs (outcome_at (Err x) s t)
+  perform_newline_moodless h e f g = ending_is s t g ∙ sym (law_newline_answer h ∙ mood_none _ e f)
 
-  pub perform_newpage_reading : k ≡ 3 → s.run.file.reading ≡ true → {z : Out (Unit {0})} → z ≡ execute row (newpage true) s t → Performs z
-  perform_newpage_reading h e g = g ∙ sym (law_kind_newpage h ∙ mood_reading _ e)
+  pub perform_newpage_reading : m ≡ Mending.newpage → s.run.file.reading ≡ true → {z : Out (Unit {0})} → z ≡ execute row (newpage true) s t → Performs z
+  perform_newpage_reading h e g = g ∙ sym (law_newpage_answer h ∙ mood_reading _ e)
 
-  pub perform_newpage_writing : k ≡ 3 → s.run.file.reading ≡ false → s.run.file.writing ≡ true → {z : Out (Unit {0})} → z ≡ execute row (newpage false) s t → Performs z
-  perform_newpage_writing h e f g = g ∙ sym (law_kind_newpage h ∙ mood_writing _ e f)
+  pub perform_newpage_writing : m ≡ Mending.newpage → s.run.file.reading ≡ false → s.run.file.writing ≡ true → {z : Out (Unit {0})} → z ≡ execute row (newpage false) s t → Performs z
+  perform_newpage_writing h e f g = g ∙ sym (law_newpage_answer h ∙ mood_writing _ e f)
 
-  pub perform_newpage_moodless : k ≡ 3 → s.run.file.reading ≡ false → s.run.file.writing ≡ false → {x : Outcome} → x ≡ refused_by s.run 5 → Performs (outcome_at x s t)
-  perform_newpage_moodless h e f g = outcome_is s t g ∙ sym (law_kind_newpage h ∙ mood_none _ e f)
+  pub perform_newpage_moodless : m ≡ Mending.newpage → s.run.file.reading ≡ false → s.run.file.writing ≡ false → {x : EndedCall} → x ≡ refused_by s.run MoodMissing → Performs (outcome_at (Err x) s t)
+  perform_newpage_moodless h e f g = ending_is s t g ∙ sym (law_newpage_answer h ∙ mood_none _ e f)
 
-  pub perform_set : k ≡ 4 → {x : Position} → x ≡ place_of w → {z : Out (Unit {0})} → z ≡ execute row (set_to x) s t → Performs z
-  unfolding perform_body mending
-  perform_set h p g = g ∙ ap (λ (y : Position). execute row (set_to y) s t) p ∙ sym (by_kind 4 (Mending.set_to (place_of w)) refl h)
+  pub perform_set : {x : Position} → m ≡ Mending.set_to x → {z : Out (Unit {0})} → z ≡ execute row (set_to x) s t → Performs z
+  unfolding perform_body
+  perform_set h g = g ∙ sym (law_perform h)
 
-  pub perform_backspace : k ≡ 5 → {x : Outcome} → x ≡ choose (ltb 1 (here s).character) (done_by (moved_to s.run (previous_character (here s)))) (refused_by s.run 6) → Performs (outcome_at x s t)
-  unfolding perform_body mending backspace
-  perform_backspace h g = outcome_is s t g ∙ by (ltb 1 (here s).character) refl ∙ sym (by_kind 5 Mending.backspace refl h)
+  pub perform_backspace : m ≡ Mending.backspace → {x : Outcome} → x ≡ choose (ltb 1 (here s).character) (done_by (moved_to s.run (previous_character (here s)))) (Err (refused_by s.run OutOfRange)) → Performs (outcome_at x s t)
+  unfolding perform_body backspace
+  perform_backspace h g = outcome_is s t g ∙ by (ltb 1 (here s).character) refl ∙ sym (law_perform h)
     where
-      by : (b : Bool) → ltb 1 (here s).character ≡ b → outcome_at (choose b (done_by (moved_to s.run (previous_character (here s)))) (refused_by s.run 6)) s t ≡ backspace s t
+      by : (b : Bool) → ltb 1 (here s).character ≡ b → outcome_at (choose b (done_by (moved_to s.run (previous_character (here s)))) (Err (refused_by s.run OutOfRange))) s t ≡ backspace s t
       by true e = back_done s t e
       by false e = back_refused s t e
 
-  pub perform_reset : k ≡ 6 → {x : Outcome} → x ≡ choose (rights_of s).reset (done_by (with_file s.run (rewound s.run.file))) (refused_by s.run 4) → Performs (outcome_at x s t)
-  unfolding perform_body mending reset
-  perform_reset h g = outcome_is s t g ∙ by (rights_of s).reset refl ∙ sym (by_kind 6 Mending.reset refl h)
+  pub perform_reset : m ≡ Mending.reset → {x : Outcome} → x ≡ choose (rights_of s).reset (done_by (with_file s.run (rewound s.run.file))) (Err (refused_by s.run RightMissing)) → Performs (outcome_at x s t)
+  unfolding perform_body reset
+  perform_reset h g = outcome_is s t g ∙ by (rights_of s).reset refl ∙ sym (law_perform h)
     where
-      by : (b : Bool) → (rights_of s).reset ≡ b → outcome_at (choose b (done_by (with_file s.run (rewound s.run.file))) (refused_by s.run 4)) s t ≡ reset s t
+      by : (b : Bool) → (rights_of s).reset ≡ b → outcome_at (choose b (done_by (with_file s.run (rewound s.run.file))) (Err (refused_by s.run RightMissing))) s t ≡ reset s t
       by true e = reset_done s t e
       by false e = reset_refused s t e
 
-  pub perform_nothing : (k ≡ 2 → ⊥) → (k ≡ 3 → ⊥) → (k ≡ 4 → ⊥) → (k ≡ 5 → ⊥) → (k ≡ 6 → ⊥) → {x : Outcome} → x ≡ done_by s.run → Performs (outcome_at x s t)
-  unfolding perform_body mending pure
-  perform_nothing a b c d e g = outcome_is s t g ∙ sym (by (eqb k 7) refl)
-    where
-      chosen : (v : Bool) → choose v (Mending.suggest (character_of w)) Mending.nothing ≡ mending w k → done tt s t ≡ perform_body row (execute row) (mending w k) s t
-      chosen true p = ap (λ (m : Mending). perform_body row (execute row) m s t) p
-      chosen false p = ap (λ (m : Mending). perform_body row (execute row) m s t) p
+  pub perform_nothing : m ≡ Mending.nothing → {x : Outcome} → x ≡ done_by s.run → Performs (outcome_at x s t)
+  unfolding perform_body pure
+  perform_nothing h g = outcome_is s t g ∙ sym (law_perform h)
 
-      by : (v : Bool) → eqb k 7 ≡ v → execute row (perform (mending_of w)) s t ≡ done tt s t
-      by v p = law_perform (mending w k) (mending_is w k i) ∙ sym (chosen v (rw (ne_eqb k 2 a, ne_eqb k 3 b, ne_eqb k 4 c, ne_eqb k 5 d, ne_eqb k 6 e, p)))
+  pub perform_suggest : {c : ℕ} → m ≡ Mending.suggest c → {x : Outcome} → x ≡ done_by s.run → Performs (outcome_at x s t)
+  unfolding perform_body pure
+  perform_suggest h g = outcome_is s t g ∙ sym (law_perform h)
 
 -- ---- set
 
@@ -325,9 +313,9 @@ module _ (row : List ℕ) (x : Position) (s : State) (t : List ℕ) (rd : Ready 
   unfolding body
   law_set_to = unfold_execute row (set_to x) s t rd
 
-  pub set_no_right : (rights_of s).«set» ≡ false → {o : Outcome} → o ≡ refused_by s.run 4 → outcome_at o s t ≡ execute row (set_to x) s t
+  pub set_no_right : (rights_of s).«set» ≡ false → {o : EndedCall} → o ≡ refused_by s.run RightMissing → outcome_at (Err o) s t ≡ execute row (set_to x) s t
   unfolding set_to_body
-  set_no_right e h = outcome_is s t h ∙ sym (law_set_to ∙ need_false 4 _ _ s t e)
+  set_no_right e h = ending_is s t h ∙ sym (law_set_to ∙ need_false 4 _ _ s t e)
 
   module _ (g : (rights_of s).«set» ≡ true) where
     module _ (b : before (end_of s) x ≡ false) where
@@ -335,8 +323,8 @@ module _ (row : List ℕ) (x : Position) (s : State) (t : List ℕ) (rd : Ready 
       unfolding set_to_body
       law_inside = law_set_to ∙ need_true 4 _ _ s t g ∙ test_false _ _ _ s t b
 
-      pub set-outside : in_bounds (shape_of s) s.lengths x ≡ false → {o : Outcome} → o ≡ refused_by s.run 6 → outcome_at o s t ≡ execute row (set_to x) s t
-      set-outside e h = outcome_is s t h ∙ sym (law_inside ∙ need_false 6 _ _ s t e)
+      pub set-outside : in_bounds (shape_of s) s.lengths x ≡ false → {o : EndedCall} → o ≡ refused_by s.run OutOfRange → outcome_at (Err o) s t ≡ execute row (set_to x) s t
+      set-outside e h = ending_is s t h ∙ sym (law_inside ∙ need_false 6 _ _ s t e)
 
       pub set_goes : in_bounds (shape_of s) s.lengths x ≡ true → {y : Run} {o : Outcome} → y ≡ moved_to s.run x → o ≡ done_by y → outcome_at o s t ≡ execute row (set_to x) s t
       unfolding change
@@ -350,18 +338,18 @@ module _ (row : List ℕ) (x : Position) (s : State) (t : List ℕ) (rd : Ready 
       pub set_from : From row (set_to x) s (on_run s y)
       set_from = subst (λ (r : Run). From row (set_to x) s (on_run s r)) (sym i) (from_gain (to_end s) rd (end_valid s rd.valid) rd.took (moved_gain s (end_of s) 0 (omega (arith, rd.valid.order))))
 
-      module _ {w k : ℕ} {r : Run} (q : Asked row (on_run s y) w k r) where
-        answered_by : (a : Answer) → answer row (on_run s y) ≡ a → execute row (set_to x) s t ≡ upon logical_end a (λ m. execute row (perform m)) (refuse_at logical_end 14) (on_run s r) t
-        answered_by a e = law_beyond ∙ signal_then logical_end row _ (on_run s y) t ∙ ap (λ (a : Answer). upon logical_end a (λ m. execute row (perform m)) (refuse_at logical_end 14) (heard row (on_run s y)) t) e
-            ∙ ap (λ (z : State). upon logical_end a (λ m. execute row (perform m)) (refuse_at logical_end 14) z t) (sym (after_event q))
+      module _ {a : Answer} {r : Run} (q : Asked row (on_run s y) a r) where
+        answered_by : {c : Answer} → a ≡ c → execute row (set_to x) s t ≡ upon logical_end c (λ m. execute row (perform m)) (refuse_at logical_end 14) (on_run s r) t
+        answered_by {c} e = law_beyond ∙ signal_then logical_end row _ (on_run s y) t ∙ ap (λ (a : Answer). upon logical_end a (λ m. execute row (perform m)) (refuse_at logical_end 14) (heard row (on_run s y)) t) (answer_is q e)
+            ∙ ap (λ (z : State). upon logical_end c (λ m. execute row (perform m)) (refuse_at logical_end 14) z t) (sym (after_event q))
 
-        pub set_refused : k ≡ 0 → {o : Outcome} → o ≡ refused_at r LogicalEnd 14 → outcome_at o s t ≡ execute row (set_to x) s t
+        pub set_refused : a ≡ is_false → {o : EndedCall} → o ≡ refused_at r LogicalEnd LogicalEndMet → outcome_at (Err o) s t ≡ execute row (set_to x) s t
         unfolding halt
-        set_refused z h = outcome_is s t h ∙ sym (answered_by _ (is_false_lem q z))
+        set_refused z h = ending_is s t h ∙ sym (answered_by z)
 
-        pub set_jumps : k ≡ 8 → {o : Outcome} → o ≡ refused_at r LogicalEnd 11 → outcome_at o s t ≡ execute row (set_to x) s t
+        pub set_jumps : a ≡ jump → {o : EndedCall} → o ≡ refused_at r LogicalEnd ProgramJumped → outcome_at (Err o) s t ≡ execute row (set_to x) s t
         unfolding halt
-        set_jumps z h = outcome_is s t h ∙ sym (answered_by _ (is_jump q z))
+        set_jumps z h = ending_is s t h ∙ sym (answered_by z)
 
-        pub set_performs : (k ≡ 0 → ⊥) → (k ≡ 8 → ⊥) → {z : Out (Unit {0})} → z ≡ execute row (perform (mending_of w)) (on_run s r) t → z ≡ execute row (set_to x) s t
-        set_performs a j h = h ∙ sym (answered_by _ (is_true_lem q a j))
+        pub set_performs : {m : Mending} → a ≡ is_true m → {z : Out (Unit {0})} → z ≡ execute row (perform m) (on_run s r) t → z ≡ execute row (set_to x) s t
+        set_performs e h = h ∙ sym (answered_by e)

@@ -14,4 +14,3 @@ pub mod Puts
 pub mod Gets
 pub mod Numbers
 pub mod Shown
-pub mod Given

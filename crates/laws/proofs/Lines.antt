@@ -10,16 +10,18 @@ use borrow.Author.Tests.{eq-eqb, ne_eqb, lt-ltb, le-ltb, eqb-true, eqb-false}
 use Rattle.rules.specs.declared.Run.{Run}
 use Rattle.rules.specs.declared.Event as code
 use Rattle.rules.specs.declared.Event.TheVariants.{LineEnd, Character}
-use Rattle.rules.specs.declared.Outcome.{Outcome}
-use Rattle.rules.specs.Book.{place, before, within, next_character, previous_character, character_index, State, state, on_run, here, end_of, shape_of, line_here, moved_to, mending_of, suggested, Event, line_end, Answer, kind_of, next_line, in_mood}
-use Rattle.rules.specs.Step.{Ending, Out, done, ends, ◌>>=◌, pure, halt, refuse_at, look, change, branch, test, need, outcome_giving, outcome, done_by, refused_by, refused_at, stopped_by, going, file_ended, page_ended, line_ended, store, on_end_line}
+use Rattle.rules.specs.declared.EndedCall.{EndedCall}
+use Rattle.rules.specs.declared.Refusal.TheVariants.{OutOfRange, BadCharacter, ProgramJumped, StringDoesNotFit}
+use Rattle.rules.specs.declared.Stop.TheVariants.{LineOver}
+use Rattle.std.specs.Prelude.{Ok, Err}
+use Rattle.rules.specs.Book.{place, before, within, next_character, previous_character, character_index, State, state, on_run, here, end_of, shape_of, line_here, moved_to, suggested, Event, line_end, Mending, Answer, is_false, jump, is_true, next_line, in_mood}
+use Rattle.rules.specs.Step.{Ending, Out, done, ends, ◌>>=◌, pure, halt, refuse_at, look, change, branch, test, need, ended_by, outcome_giving, outcome, done_by, refused_by, refused_at, stopped_by, file_ended, page_ended, line_ended, store, on_end_line, Outcome}
 use Rattle.rules.specs.Steps.{string_end, good_file, good_page, good_line, at_line_end, newline, perform, answered, put_character, set_character_number, printable, backspaces, signals, signal_while, upon, good_line_body, at_line_end_body, character_event, put_character_body, space_step, set_character_number_body, body, measure, execute}
-use Rattle.laws.specs.Follow.{followed}
 use Rattle.laws.specs.Runs.{stored_by}
 use Rattle.laws.proofs.Progress.{Ready, LineGood, Done, Site, site_lower, gain_less, From, from_gain, heard, answer}
 use Rattle.laws.proofs.Unfolding.{On, unfold_execute, space_post, event_post}
-use Rattle.laws.proofs.Ways.{reached, halted, hands_on, bind_done, bind_ends, same_then, branch_true, branch_false, test_true, test_false, need_true, need_false, look_then, signal_then, outcome_at, outcome_is, with_value, post_done_of, done_of, Asked, is_false_lem, is_jump, is_true_lem, after_event, from_lower, from_later, signals_default, signals_followed}
-use Rattle.laws.proofs.Cases.{law_good_page, held_stays, good_file_stays, back_done, newline_page, newline_moves, follow_perform, follow_ends, follow_done, perform_newline_reading, perform_newline_writing}
+use Rattle.laws.proofs.Ways.{reached, halted, bind_done, bind_ends, same_then, branch_true, branch_false, test_true, test_false, need_true, need_false, look_then, signal_then, outcome_at, outcome_is, post_done_of, done_of, Asked, answer_is, after_event, from_lower, from_later, signals_default, signals_jumps, signals_answered, ending_is}
+use Rattle.laws.proofs.Cases.{law_good_page, held_stays, good_file_stays, back_done, newline_page, newline_moves, answered_perform, answered_ends, answered_done, perform_newline_reading, perform_newline_writing}
 
 -- ---- good line, and the event at a line's end
 
@@ -30,33 +32,30 @@ good_page_at_once row r w s t rd f p =
     held_stays _ _ _ _ s t (law_good_page row r w s t rd) (sym (good_file_stays row r w s t rf {x = done_by s.run} f refl)) p
 
 -- a newline answered while reading, in a good page and on another line than the logical end's: only the position moves
-pub follow_newline : (row : List ℕ) (event : code.Event) (r : Bool) (w : ℕ) (s : State) (t : List ℕ) → Ready row (answered r (mending_of w)) s → {k : ℕ} → k ≡ kind_of w → k ≡ 2 → s.run.file.reading ≡ true
+pub answered_newline : (row : List ℕ) (r : Bool) (m : Mending) (s : State) (t : List ℕ) → Ready row (answered r m) s → m ≡ Mending.newline → s.run.file.reading ≡ true
     → file_ended true s.run ≡ false → page_ended s.run s.lengths.pages ≡ false → on_end_line s.run ≡ false
-    → {y y' : Run} {x : Outcome} → y ≡ moved_to s.run (next_line (here s)) → y' ≡ in_mood y r → x ≡ done_by y' → outcome_at x s t ≡ followed row event r w s t
-follow_newline row event r w s t rd {k} i h e f p o {y} hy hm hx =
-    let rp = (follow_perform row event r w s t rd i).0 in
-    let rn = (site_lower row (perform (mending_of w)) s rp (newline true) (omega arith)).0 in
+    → {y y' : Run} {x : Outcome} → y ≡ moved_to s.run (next_line (here s)) → y' ≡ in_mood y r → x ≡ done_by y' → outcome_at x s t ≡ execute row (answered r m) s t
+answered_newline row r m s t rd h e f p o {y} hy hm hx =
+    let rp = (answered_perform row r m s t rd).0 in
+    let rn = (site_lower row (perform m) s rp (newline true) (omega arith)).0 in
     let g = good_page_at_once row true false s t (newline_page row true s t rn) f p in
     let n : done tt (on_run s y) t ≡ execute row (newline true) s t = newline_moves row true s t rn g o hy refl in
-    follow_done row event r w s t rd i (λ z. let q : ◌≡◌ {A = ℕ} 2 8 = sym h ∙ z in absurd (omega (arith, q))) (sym (perform_newline_reading row w s t rp i h e n)) hm hx
+    answered_done row r m s t rd (sym (perform_newline_reading row m s t rp h e n)) hm hx
 
 -- a newline answered while writing: the newline, and then the call's mood is set again
-module _ (row : List ℕ) (event : code.Event) (r : Bool) (w : ℕ) (s : State) (t : List ℕ) (rd : Ready row (answered r (mending_of w)) s) (h : kind_of w ≡ 2) where
-  written_perform : Ready row (perform (mending_of w)) s
-  written_perform = (follow_perform row event r w s t rd refl).0
+module _ (row : List ℕ) (r : Bool) (m : Mending) (s : State) (t : List ℕ) (rd : Ready row (answered r m) s) (h : m ≡ Mending.newline) where
+  written_perform : Ready row (perform m) s
+  written_perform = (answered_perform row r m s t rd).0
 
   pub written_ready : Ready row (newline false) s
-  written_ready = (site_lower row (perform (mending_of w)) s written_perform (newline false) (omega arith)).0
+  written_ready = (site_lower row (perform m) s written_perform (newline false) (omega arith)).0
 
-  no_jump : kind_of w ≡ 8 → ⊥
-  no_jump z = let q : ◌≡◌ {A = ℕ} 2 8 = sym h ∙ z in absurd (omega (arith, q))
+  module _ (e : s.run.file.reading ≡ false) (f : s.run.file.writing ≡ true) {x : Outcome} (t' l p : List ℕ) (g : outcome x t' l p ≡ execute row (newline false) s t) where
+    pub written_ends : {d : EndedCall} → x ≡ Err d → execute row (answered r m) s t ≡ ends (ended_by d) (state d.run l p) t'
+    written_ends n = answered_ends row r m s t rd (halted (perform_newline_writing row m s t written_perform h e f g) n)
 
-  module _ (e : s.run.file.reading ≡ false) (f : s.run.file.writing ≡ true) (x : Outcome) (t' l p : List ℕ) (g : outcome x t' l p ≡ execute row (newline false) s t) where
-    pub written_ends : going x.status ≡ false → outcome x t' l p ≡ followed row event r w s t
-    written_ends n = hands_on x (follow_ends row event r w s t rd refl no_jump (halted x (perform_newline_writing row w s t written_perform refl h e f g) n)) n
-
-    pub written_done : going x.status ≡ true → {y : Run} {o : Outcome} → y ≡ in_mood x.run r → o ≡ done_by y → outcome o t' l p ≡ followed row event r w s t
-    written_done n hy ho = follow_done row event r w s t rd refl no_jump (reached x (perform_newline_writing row w s t written_perform refl h e f g) n) hy ho
+    pub written_done : {u : Run} → x ≡ Ok u → {y : Run} {o : Outcome} → y ≡ in_mood u r → o ≡ done_by y → outcome o t' l p ≡ execute row (answered r m) s t
+    written_done n hy ho = answered_done row r m s t rd (reached (perform_newline_writing row m s t written_perform h e f g) n) hy ho
 
 module _ (row : List ℕ) (r w : Bool) (s : State) (t : List ℕ) (rd : Ready row (good_line r w) s) where
   pub law_good_line : execute row (good_line r w) s t ≡ (execute row (good_page r (r && w)) >>= λ _. signal_while line_ended (execute row (at_line_end r w)) (execute row (good_line r w))) s t
@@ -81,60 +80,65 @@ module _ (row : List ℕ) (r w : Bool) (s : State) (t : List ℕ) (rd : Ready ro
   pub good_line_at_once : LineGood r s → execute row (good_line r w) s t ≡ done tt s t
   good_line_at_once g = held_stays _ _ _ _ s t law_good_line (good_page_at_once row r (r && w) s t good_line_page g.0.0 g.0.1) g.1
 
-  pub good_line_quick : LineGood r s → {x : Outcome} → x ≡ done_by s.run → outcome_at x s t ≡ execute row (good_line r w) s t
-  good_line_quick g h = outcome_is s t h ∙ sym (good_line_at_once g)
-
-module _ (row : List ℕ) (r w : Bool) (s : State) (t : List ℕ) (rd : Ready row (at_line_end r w) s) {c k : ℕ} {u : Run} (q : Asked row s c k u) where
+module _ (row : List ℕ) (r w : Bool) (s : State) (t : List ℕ) (rd : Ready row (at_line_end r w) s) {a : Answer} {u : Run} (q : Asked row s a u) where
   law_line_end : execute row (at_line_end r w) s t ≡ signals row (execute row) line_end r (branch w (string_end row (execute row) r) (execute row (newline r))) s t
   unfolding body at_line_end_body
   law_line_end = unfold_execute row (at_line_end r w) s t rd
 
   -- the default in a string
-  law_string : k ≡ 0 → w ≡ true → execute row (at_line_end r w) s t ≡ string_end row (execute row) r (on_run s u) t
+  law_string : a ≡ is_false → w ≡ true → execute row (at_line_end r w) s t ≡ string_end row (execute row) r (on_run s u) t
   law_string z y = law_line_end ∙ signals_default row line_end r _ t q z ∙ branch_true _ _ (on_run s u) t y
 
-  pub line_end_stops : k ≡ 0 → w ≡ true → r ≡ true → {x : Outcome} → x ≡ stopped_by u 2 → outcome_at x s t ≡ execute row (at_line_end r w) s t
+  pub line_end_stops : a ≡ is_false → w ≡ true → r ≡ true → {x : EndedCall} → x ≡ stopped_by u LineOver → outcome_at (Err x) s t ≡ execute row (at_line_end r w) s t
   unfolding halt string_end
-  line_end_stops z y i h = outcome_is s t h ∙ sym (law_string z y ∙ branch_true _ _ (on_run s u) t i)
+  line_end_stops z y i h = ending_is s t h ∙ sym (law_string z y ∙ branch_true _ _ (on_run s u) t i)
 
-  pub line_end_splits : k ≡ 0 → w ≡ true → r ≡ false → u.file.split ≡ true → {z : Out (Unit {0})} → z ≡ execute row (newline r) (on_run s u) t → z ≡ execute row (at_line_end r w) s t
+  pub line_end_splits : a ≡ is_false → w ≡ true → r ≡ false → u.file.split ≡ true → {z : Out (Unit {0})} → z ≡ execute row (newline r) (on_run s u) t → z ≡ execute row (at_line_end r w) s t
   unfolding string_end
   line_end_splits z y i e g = g ∙ sym (law_string z y ∙ branch_false _ _ (on_run s u) t i ∙ test_true _ _ _ (on_run s u) t e)
 
-  pub line_end_refuses : k ≡ 0 → w ≡ true → r ≡ false → u.file.split ≡ false → {x : Outcome} → x ≡ refused_at u LineEnd 16 → outcome_at x s t ≡ execute row (at_line_end r w) s t
+  pub line_end_refuses : a ≡ is_false → w ≡ true → r ≡ false → u.file.split ≡ false → {x : EndedCall} → x ≡ refused_at u LineEnd StringDoesNotFit → outcome_at (Err x) s t ≡ execute row (at_line_end r w) s t
   unfolding halt string_end
-  line_end_refuses z y i e h = outcome_is s t h ∙ sym (law_string z y ∙ branch_false _ _ (on_run s u) t i ∙ test_false _ _ _ (on_run s u) t e)
+  line_end_refuses z y i e h = ending_is s t h ∙ sym (law_string z y ∙ branch_false _ _ (on_run s u) t i ∙ test_false _ _ _ (on_run s u) t e)
 
-  pub line_end_default : k ≡ 0 → w ≡ false → {z : Out (Unit {0})} → z ≡ execute row (newline r) (on_run s u) t → z ≡ execute row (at_line_end r w) s t
+  pub line_end_default : a ≡ is_false → w ≡ false → {z : Out (Unit {0})} → z ≡ execute row (newline r) (on_run s u) t → z ≡ execute row (at_line_end r w) s t
   line_end_default y e g = g ∙ sym (law_line_end ∙ signals_default row line_end r _ t q y ∙ branch_false _ _ (on_run s u) t e)
 
-  pub line_end_follows : (k ≡ 0 → ⊥) → {z : Out (Unit {0})} → z ≡ followed row LineEnd r c (on_run s u) t → z ≡ execute row (at_line_end r w) s t
-  line_end_follows y g = g ∙ sym (law_line_end ∙ signals_followed row line_end r _ t q y refl)
+  pub line_end_jumps : a ≡ jump → {x : EndedCall} → x ≡ refused_at u LineEnd ProgramJumped → outcome_at (Err x) s t ≡ execute row (at_line_end r w) s t
+  unfolding halt
+  line_end_jumps y h = ending_is s t h ∙ sym (law_line_end ∙ signals_jumps row line_end r _ t q y refl)
+
+  pub line_end_answered : {m : Mending} → a ≡ is_true m → {z : Out (Unit {0})} → z ≡ execute row (answered r m) (on_run s u) t → z ≡ execute row (at_line_end r w) s t
+  line_end_answered y g = g ∙ sym (law_line_end ∙ signals_answered row line_end r _ t q y)
 
 -- ---- a character event at b
 
-module _ (row : List ℕ) (r : Bool) (c : ℕ) {b : State} (t : List ℕ) {w k : ℕ} {u : Run} (q : Asked row b w k u) where
-  answered_by : (a : Answer) → answer row b ≡ a → character_event row (execute row) r c b t
-      ≡ upon Event.character a (λ m. execute row (answered r m) >>= λ _. pure (suggested m c)) (refuse_at Event.character 8) (on_run b u) t
+module _ (row : List ℕ) (r : Bool) (c : ℕ) {b : State} (t : List ℕ) {a : Answer} {u : Run} (q : Asked row b a u) where
+  answered_by : {x : Answer} → a ≡ x → character_event row (execute row) r c b t
+      ≡ upon Event.character x (λ m. execute row (answered r m) >>= λ _. pure (suggested m c)) (refuse_at Event.character 8) (on_run b u) t
   unfolding character_event
-  answered_by a e = signal_then Event.character row _ b t ∙ ap (λ (a : Answer). upon Event.character a (λ m. execute row (answered r m) >>= λ _. pure (suggested m c)) (refuse_at Event.character 8) (heard row b) t) e
-      ∙ ap (λ (z : State). upon Event.character a (λ m. execute row (answered r m) >>= λ _. pure (suggested m c)) (refuse_at Event.character 8) z t) (sym (after_event q))
+  answered_by {x} e = signal_then Event.character row _ b t ∙ ap (λ (a : Answer). upon Event.character a (λ m. execute row (answered r m) >>= λ _. pure (suggested m c)) (refuse_at Event.character 8) (heard row b) t) (answer_is q e)
+      ∙ ap (λ (z : State). upon Event.character x (λ m. execute row (answered r m) >>= λ _. pure (suggested m c)) (refuse_at Event.character 8) z t) (sym (after_event q))
 
-  pub event_refuses : k ≡ 0 → (a : ℕ) {x : Outcome} → x ≡ refused_at u Character 8 → outcome_giving a x t b.lengths.lines b.lengths.pages ≡ character_event row (execute row) r c b t
+  ends_as : {x y : EndedCall} → x ≡ y → outcome_giving {A = ℕ} (Err x) t b.lengths.lines b.lengths.pages ≡ outcome_giving (Err y) t b.lengths.lines b.lengths.pages
+  ends_as h = ap (λ (o : EndedCall). outcome_giving (Err o) t b.lengths.lines b.lengths.pages) h
+
+  pub event_refuses : a ≡ is_false → {x : EndedCall} → x ≡ refused_at u Character BadCharacter → outcome_giving (Err x) t b.lengths.lines b.lengths.pages ≡ character_event row (execute row) r c b t
   unfolding halt
-  event_refuses z a h = ap (λ (o : Outcome). outcome_giving a o t b.lengths.lines b.lengths.pages) h ∙ sym (answered_by _ (is_false_lem q z))
+  event_refuses z h = ends_as h ∙ sym (answered_by z)
+
+  pub event_jumps : a ≡ jump → {x : EndedCall} → x ≡ refused_at u Character ProgramJumped → outcome_giving (Err x) t b.lengths.lines b.lengths.pages ≡ character_event row (execute row) r c b t
+  unfolding halt
+  event_jumps z h = ends_as h ∙ sym (answered_by z)
 
   -- what follows the answer, followed by the suggestion
-  law_event : (k ≡ 0 → ⊥) → character_event row (execute row) r c b t ≡ (followed row Character r w >>= λ _. pure (suggested (mending_of w) c)) (on_run b u) t
-  unfolding halt
-  law_event z = by (eqb k 8) refl
-    where
-      by : (v : Bool) → eqb k 8 ≡ v → character_event row (execute row) r c b t ≡ (followed row Character r w >>= λ _. pure (suggested (mending_of w) c)) (on_run b u) t
-      by true e = answered_by _ (is_jump q (eqb-true k 8 e)) ∙ sym (bind_ends _ _ (on_run b u) t (branch_true _ _ (on_run b u) t (ap (λ (n : ℕ). eqb n 8) (sym q.kind) ∙ e)))
-      by false e = answered_by _ (is_true_lem q z (eqb-false k 8 e)) ∙ same_then _ _ _ (on_run b u) t (sym (branch_false _ _ (on_run b u) t (ap (λ (n : ℕ). eqb n 8) (sym q.kind) ∙ e)))
+  module _ {m : Mending} (z : a ≡ is_true m) where
+    pub event_ends : {x : Ending} {v : State} {t' : List ℕ} → execute row (answered r m) (on_run b u) t ≡ ends x v t' → character_event row (execute row) r c b t ≡ ends x v t'
+    event_ends h = answered_by z ∙ bind_ends _ _ (on_run b u) t h
 
-  pub event_follows : (k ≡ 0 → ⊥) → (o : Outcome) (t' l p : List ℕ) → outcome o t' l p ≡ followed row Character r w (on_run b u) t → {a : ℕ} → a ≡ suggested (mending_of w) c → outcome_giving a o t' l p ≡ character_event row (execute row) r c b t
-  event_follows z o t' l p h e = ap (λ (a : ℕ). outcome_giving a o t' l p) e ∙ with_value _ o t' l p (followed row Character r w) (on_run b u) t h ∙ sym (law_event z)
+    pub event_done : {v : State} {t' : List ℕ} → execute row (answered r m) (on_run b u) t ≡ done tt v t' → {d : ℕ} → d ≡ suggested m c → done d v t' ≡ character_event row (execute row) r c b t
+    unfolding pure
+    event_done {v} {t'} h e = ap (λ (d : ℕ). done d v t') e ∙ sym (answered_by z ∙ bind_done _ _ (on_run b u) t h)
 
 -- ---- put of a character: b is what good line gave
 
@@ -143,8 +147,8 @@ unfolding store
 stored_is s t c = refl
 
 -- what the code leaves
-stored_as : (s : State) (t : List ℕ) (c : ℕ) {y : Run} {t' l' p' : List ℕ} {x : Outcome} → state y l' p' ≡ stored_by 1 s → t' ≡ set t (character_index (shape_of s) (here s)) c → x ≡ done_by y → outcome x t' l' p' ≡ store c s t
-stored_as s t c {t' = t'} {l' = l'} {p' = p'} hu ht hx = ap (λ (o : Outcome). outcome o t' l' p') hx ∙ ap (λ (u : State). done tt u t') hu ∙ ap (λ (v : List ℕ). done tt (stored_by 1 s) v) ht ∙ sym (stored_is s t c)
+stored_as : (s : State) (t : List ℕ) (c : ℕ) {y : Run} {t' l' p' : List ℕ} → state y l' p' ≡ stored_by 1 s → t' ≡ set t (character_index (shape_of s) (here s)) c → done tt (state y l' p') t' ≡ store c s t
+stored_as s t c {t' = t'} hu ht = ap (λ (u : State). done tt u t') hu ∙ ap (λ (v : List ℕ). done tt (stored_by 1 s) v) ht ∙ sym (stored_is s t c)
 
 -- a state that the code's loop has come to, with the character that is now tried
 pub record Trying (row : List ℕ) (w : Bool) (c₀ : ℕ) (s₀ : State) (t₀ : List ℕ) (c : ℕ) (s : State) (t : List ℕ) : Type 0 where
@@ -170,9 +174,9 @@ module _ (row : List ℕ) (w : Bool) (c : ℕ) (s : State) (t : List ℕ) (rd : 
     pub put_from : From row (put_character w c) s b
     put_from = from_gain b rd put_done.valid put_done.took put_done.claim.0
 
-    pub put_stores : printable c ≡ true → {y : Run} {t' l' p' : List ℕ} {x : Outcome} → state y l' p' ≡ stored_by 1 b → t' ≡ set t₁ (character_index (shape_of b) (here b)) c → x ≡ done_by y → outcome x t' l' p' ≡ execute row (put_character w c) s t
+    pub put_stores : printable c ≡ true → {y : Run} {t' l' p' : List ℕ} → state y l' p' ≡ stored_by 1 b → t' ≡ set t₁ (character_index (shape_of b) (here b)) c → done tt (state y l' p') t' ≡ execute row (put_character w c) s t
     unfolding put_character_body
-    put_stores e hu ht hx = stored_as b t₁ c hu ht hx ∙ sym (law_put ∙ bind_done _ _ s t f ∙ branch_true _ _ b t₁ e)
+    put_stores e hu ht = stored_as b t₁ c hu ht ∙ sym (law_put ∙ bind_done _ _ s t f ∙ branch_true _ _ b t₁ e)
 
     module _ (e : printable c ≡ false) where
       law_tried : execute row (put_character w c) s t ≡ (character_event row (execute row) false 32 >>= λ c. execute row (put_character w c)) b t₁
@@ -207,9 +211,9 @@ module _ (row : List ℕ) (r : Bool) (s : State) (t : List ℕ) where
     unfolding space_step change
     space_passes e i h = outcome_is b t₁ (h ∙ ap done_by i) ∙ sym (bind_done _ _ s t f ∙ test_true _ _ _ b t₁ e)
 
-    pub space_stores : (r || before (here b) (end_of b)) ≡ false → {y : Run} {t' l' p' : List ℕ} {x : Outcome} → state y l' p' ≡ stored_by 1 b → t' ≡ set t₁ (character_index (shape_of b) (here b)) 32 → x ≡ done_by y → outcome x t' l' p' ≡ space_step row (execute row) r s t
+    pub space_stores : (r || before (here b) (end_of b)) ≡ false → {y : Run} {t' l' p' : List ℕ} → state y l' p' ≡ stored_by 1 b → t' ≡ set t₁ (character_index (shape_of b) (here b)) 32 → done tt (state y l' p') t' ≡ space_step row (execute row) r s t
     unfolding space_step
-    space_stores e hu ht hx = stored_as b t₁ 32 hu ht hx ∙ sym (bind_done _ _ s t f ∙ test_false _ _ _ b t₁ e)
+    space_stores e hu ht = stored_as b t₁ 32 hu ht ∙ sym (bind_done _ _ s t f ∙ test_false _ _ _ b t₁ e)
 
 -- ---- set char number
 
@@ -236,8 +240,8 @@ module _ (row : List ℕ) (r : Bool) (n : ℕ) (s : State) (t : List ℕ) (rd : 
     unfolding set_character_number_body
     law_moved = law_number ∙ test_false _ _ _ s t (ne_eqb (here s).character n d)
 
-    pub number_outside : within 1 n (line_here s + 1) ≡ false → {x : Outcome} → x ≡ refused_by s.run 6 → outcome_at x s t ≡ execute row (set_character_number r n) s t
-    number_outside e h = outcome_is s t h ∙ sym (law_moved ∙ need_false 6 _ _ s t e)
+    pub number_outside : within 1 n (line_here s + 1) ≡ false → {x : EndedCall} → x ≡ refused_by s.run OutOfRange → outcome_at (Err x) s t ≡ execute row (set_character_number r n) s t
+    number_outside e h = ending_is s t h ∙ sym (law_moved ∙ need_false 6 _ _ s t e)
 
     module _ (i : within 1 n (line_here s + 1) ≡ true) where
       pub number_back : n < (here s).character → 1 ≤ n → {y : Run} {x : Outcome} → y ≡ moved_to s.run (place (here s).page (here s).line n) → x ≡ done_by y → outcome_at x s t ≡ execute row (set_character_number r n) s t

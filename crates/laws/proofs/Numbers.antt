@@ -12,21 +12,22 @@ use borrow.Author.Tests.{le-leb, lt-leb, leb-true, leb-false, ltb-true, eq-eqb, 
 use Rattle.rules.specs.declared.Position.{Position}
 use Rattle.rules.specs.declared.Run.{Run}
 use Rattle.rules.specs.declared.Event.TheVariants as code
-use Rattle.rules.specs.declared.Outcome.{Outcome}
+use Rattle.rules.specs.declared.EndedCall.{EndedCall}
+use Rattle.rules.specs.declared.Refusal.TheVariants.{LineTooShort}
+use Rattle.std.specs.Prelude.{Err}
 use Rattle.rules.specs.Book.{choose, within, next_character, character_index, State, state, on_run, here, shape_of, line_here, moved_to, in_mood, Event, Mending, suggest, Answer, is_false, jump, is_true, suggested}
-use Rattle.rules.specs.Step.{Ending, Out, done, ends, Step, ◌>>=◌, and_then, pure, change, halt, refuse_at, refusal_at, branch, pass, look, character_here, outcome_giving, outcome, done_by, refused_by}
+use Rattle.rules.specs.Step.{Ending, Out, done, ends, Step, ◌>>=◌, and_then, pure, change, halt, refuse_at, refusal_at, branch, pass, look, character_here, outcome_giving, outcome, done_by, refused_by, Outcome}
 use Rattle.rules.specs.Steps.{Action, perform, answered, good_line, at_line_end, put_character, room_for, pass_blanks, more_digits, printable, digit, fits_here, is_stop, signals, signal_while, upon, perform_body, answered_body, character_event, room_for_body, pass_blanks_body, more_digits_body, body, stage, execute}
 use Rattle.rules.specs.Whole.{digits_up_to, signed, padded, whole_text}
 use Rattle.rules.specs.Calls.{nothing, an_integer, put_characters, put_text, first_digit, with_sign, integer_given, sign_before, take_integer}
 use Rattle.laws.specs.Runs.{stored_by, every}
 use Rattle.laws.specs.Capped.{capped, with_cap}
-use Rattle.laws.specs.Follow.{followed}
 use Rattle.laws.proofs.Order.{split}
 use Rattle.laws.proofs.Validity.{Valid}
 use Rattle.laws.proofs.Progress.{Gain, Ready, LineGood, Done, heard, answer, heard_took, heard_gain, site_later, site_lower, ready_as, ready_on, gain_less, gain_trans, From, from_gain}
 use Rattle.laws.proofs.Walk.{Ended, Post, at_pure, at_change, at_halt, at_bind, at_branch, at_weak, at_first, at_look, at_character_lem, ended_here, ended_on}
 use Rattle.laws.proofs.Unfolding.{On, unfold_execute, execute_post}
-use Rattle.laws.proofs.Ways.{bind_done, bind_ends, attempt_done, attempt_ends, branch_true, branch_false, test_true, test_false, need_true, need_false, change_then, look_then, signal_then, outcome_at, outcome_is, done_of, with_value, Asked, signals_default, signals_followed, from_lower, while_stays, while_ends, while_again}
+use Rattle.laws.proofs.Ways.{bind_done, bind_ends, attempt_done, attempt_ends, branch_true, branch_false, test_true, test_false, need_true, need_false, change_then, look_then, signal_then, outcome_at, outcome_is, done_of, Asked, signals_default, signals_jumps, signals_answered, from_lower, while_stays, while_ends, while_again, ending_is}
 use Rattle.laws.proofs.Runs.{All, also, all_of, both_true, any_character, one_stored, put_run, line_stays, good_on, one_ready}
 use Rattle.laws.proofs.Gets.{character_then, passed, passed_on, passed_event, post_at}
 
@@ -48,9 +49,9 @@ module _ (row : List ℕ) (w : ℕ) (s : State) (t : List ℕ) (rd : Ready row (
     pub room_from : From row (room_for w) s b
     room_from = let d = done_of row (good_line false false) t room_line f in from_gain b rd d.valid d.took d.claim.0
 
-    pub room_short : line_here b < w → {x : Outcome} → x ≡ refused_by b.run 10 → outcome_at x b t₁ ≡ execute row (room_for w) s t
+    pub room_short : line_here b < w → {x : EndedCall} → x ≡ refused_by b.run LineTooShort → outcome_at (Err x) b t₁ ≡ execute row (room_for w) s t
     unfolding room_for_body
-    room_short e h = outcome_is b t₁ h ∙ sym (law_room ∙ bind_done _ _ s t f ∙ need_false 10 _ _ b t₁ (lt-leb w (line_here b) e))
+    room_short e h = ending_is b t₁ h ∙ sym (law_room ∙ bind_done _ _ s t f ∙ need_false 10 _ _ b t₁ (lt-leb w (line_here b) e))
 
     module _ (k : w ≤ line_here b) where
       law_held : execute row (room_for w) s t ≡ signal_while (λ s. not (fits_here w s)) (execute row (at_line_end false false)) (execute row (room_for w)) b t₁
@@ -171,13 +172,13 @@ module _ (row text : List ℕ) (s : State) (t : List ℕ) (rd : Ready row (room_
         ∙ ap (λ (x : List ℕ). done tt (stored_by (length x) b) (sets t₁ (character_index (shape_of b) (here b)) x)) (sym e)
 
     -- what the code leaves
-    text_as : (b : State) (t₁ : List ℕ) {y : Run} {t' l' p' : List ℕ} {x : Outcome} → state y l' p' ≡ stored_by (length text) b → t' ≡ sets t₁ (character_index (shape_of b) (here b)) text → x ≡ done_by y
-        → outcome x t' l' p' ≡ done tt (stored_by (length text) b) (sets t₁ (character_index (shape_of b) (here b)) text)
-    text_as b t₁ {t' = t'} {l' = l'} {p' = p'} hu ht hx = ap (λ (o : Outcome). outcome o t' l' p') hx ∙ ap (λ (u : State). done tt u t') hu ∙ ap (λ (l : List ℕ). done tt (stored_by (length text) b) l) ht
+    text_as : (b : State) (t₁ : List ℕ) {y : Run} {t' l' p' : List ℕ} → state y l' p' ≡ stored_by (length text) b → t' ≡ sets t₁ (character_index (shape_of b) (here b)) text
+        → done (tt {0}) (state y l' p') t' ≡ done tt (stored_by (length text) b) (sets t₁ (character_index (shape_of b) (here b)) text)
+    text_as b t₁ {t' = t'} hu ht = ap (λ (u : State). done tt u t') hu ∙ ap (λ (l : List ℕ). done tt (stored_by (length text) b) l) ht
 
-    pub text_here : (here b).character ≡ 1 → {y : Run} {t' l' p' : List ℕ} → state y l' p' ≡ stored_by (length text) b → t' ≡ sets t₁ (character_index (shape_of b) (here b)) text → {x : Outcome} → x ≡ done_by y → outcome x t' l' p' ≡ put_text row text s t
+    pub text_here : (here b).character ≡ 1 → {y : Run} {t' l' p' : List ℕ} → state y l' p' ≡ stored_by (length text) b → t' ≡ sets t₁ (character_index (shape_of b) (here b)) text → done tt (state y l' p') t' ≡ put_text row text s t
     unfolding put_text pure
-    text_here c hu ht hx = text_as b t₁ hu ht hx
+    text_here c hu ht = text_as b t₁ hu ht
         ∙ sym (bind_done _ _ s t f ∙ bind_done _ _ b t₁ (test_true _ _ _ b t₁ (eq-eqb (here b).character 1 c))
         ∙ whole_run b t₁ put_ready room_done.claim.1.0 (fits_fact (length text) b room_done.claim.1.1) text refl (all_of printable text p))
 
@@ -189,12 +190,12 @@ module _ (row text : List ℕ) (s : State) (t : List ℕ) (rd : Ready row (room_
       pub blank_ready : Ready row (put_character false 32) u
       blank_ready = subst (Ready row (put_character false 32)) (sym hu) (one_ready row false 32 b t₁ put_ready room_done.claim.1.0 blank_printable)
 
-      pub text_after : {z : Run} {t' l' p' : List ℕ} → state z l' p' ≡ stored_by (length text) u → t' ≡ sets t₂ (character_index (shape_of u) (here u)) text → {x : Outcome} → x ≡ done_by z → outcome x t' l' p' ≡ put_text row text s t
-      text_after hz ht' hx =
+      pub text_after : {z : Run} {t' l' p' : List ℕ} → state z l' p' ≡ stored_by (length text) u → t' ≡ sets t₂ (character_index (shape_of u) (here u)) text → done tt (state z l' p') t' ≡ put_text row text s t
+      text_after hz ht' =
           let k = fits_fact_after (length text) b c room_done.claim.1.1 in
           let g : LineGood false u = subst (LineGood false) (sym hu) (good_on b 1 room_done.valid room_done.claim.1.0 (omega (arith, k, some))) in
           let w : (here u).character + length text ≤ line_here u + 1 = subst (λ (v : State). (here v).character + length text ≤ line_here v + 1) (sym hu) (omega (arith, k, line_stays b 1 room_done.valid)) in
-          text_as u t₂ hz ht' hx ∙ sym (after_blank ∙ whole_run u t₂ blank_ready g w text refl (all_of printable text p))
+          text_as u t₂ hz ht' ∙ sym (after_blank ∙ whole_run u t₂ blank_ready g w text refl (all_of printable text p))
 
 -- ---- blanks passed: b is what good line gave, c stands there
 
@@ -385,17 +386,29 @@ module _ (row : List ℕ) (minus : Bool) (v : ℕ) (s : State) (t : List ℕ) wh
   unfolding integer_given pure
   given_there h = branch_true _ _ s t (le-leb v 2147483647 h)
 
-  module _ (h : 2147483647 < v) {w k : ℕ} {u : Run} (q : Asked row s w k u) where
+  module _ (h : 2147483647 < v) {a : Answer} {u : Run} (q : Asked row s a u) where
     law_above : integer_given row minus v s t ≡ (signals row (execute row) Event.value true (refuse_at Event.value 9) >>= λ _. pure nothing) s t
     unfolding integer_given
     law_above = branch_false _ _ s t (lt-leb v 2147483647 h)
 
-    pub given_refused : k ≡ 0 → integer_given row minus v s t ≡ ends (refusal_at Event.value (here (on_run s u)) 9) (on_run s u) t
+    pub given_refused : a ≡ is_false → integer_given row minus v s t ≡ ends (refusal_at Event.value (here (on_run s u)) 9) (on_run s u) t
     unfolding halt
     given_refused z = law_above ∙ bind_ends _ _ s t (signals_default row Event.value true _ t q z)
 
-    pub given_none : (k ≡ 0 → ⊥) → (o : Outcome) (t' l p : List ℕ) → outcome o t' l p ≡ followed row code.Value true w (on_run s u) t → outcome_giving nothing o t' l p ≡ integer_given row minus v s t
-    given_none z o t' l p f = with_value nothing o t' l p (followed row code.Value true w) (on_run s u) t f ∙ sym (law_above ∙ same_at _ _ _ (signals_followed row Event.value true _ t q z refl))
+    pub given_jumps : a ≡ jump → integer_given row minus v s t ≡ ends (refusal_at Event.value (here (on_run s u)) 11) (on_run s u) t
+    unfolding halt
+    given_jumps z = law_above ∙ bind_ends _ _ s t (signals_jumps row Event.value true _ t q z refl)
+
+    module _ {m : Mending} (z : a ≡ is_true m) where
+      law_true : integer_given row minus v s t ≡ (execute row (answered true m) >>= λ _. pure nothing) (on_run s u) t
+      law_true = law_above ∙ same_at _ _ _ (signals_answered row Event.value true _ t q z)
+
+      pub given_ends : {x : Ending} {w : State} {t' : List ℕ} → execute row (answered true m) (on_run s u) t ≡ ends x w t' → integer_given row minus v s t ≡ ends x w t'
+      given_ends h = law_true ∙ bind_ends _ _ (on_run s u) t h
+
+      pub given_none : {w : State} {t' : List ℕ} → execute row (answered true m) (on_run s u) t ≡ done tt w t' → integer_given row minus v s t ≡ done nothing w t'
+      unfolding pure
+      given_none h = law_true ∙ bind_done _ _ (on_run s u) t h
 
 -- ---- blanks, a sign, and blanks: b is where the first blanks end, c stands there
 

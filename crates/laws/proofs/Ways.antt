@@ -11,13 +11,17 @@ use borrow.Author.Tests.{eq-eqb, ne_eqb, eqb-true, eqb-false}
 use Rattle.rules.specs.declared.Position.{Position}
 use Rattle.rules.specs.declared.Run.{Run}
 use Rattle.rules.specs.declared.Event as code
-use Rattle.rules.specs.declared.Outcome.{Outcome}
-use Rattle.rules.specs.Book.{choose, State, state, on_run, signalled_by, next_word, kind_of, mending_of, here, Event, logical_end, physical_end, page_end, line_end, Answer, is_false, is_true, jump, answer_of}
-use Rattle.rules.specs.Step.{Told, signalled, ending_by, told_by, event_as, Ending, Out, done, ends, Step, ◌>>=◌, and_then, caught, pure, halt, refuse_at, refusal, attempt, look, change, branch, test, need, going, outcome_giving, outcome, signal}
+use Rattle.rules.specs.declared.Refusal.{Refusal}
+use Rattle.rules.specs.declared.Refusal.TheVariants.{ProgramJumped}
+use Rattle.rules.specs.declared.EndedCall.{EndedCall}
+use Rattle.rules.specs.declared.Taken.{Taken}
+use Rattle.std.specs.Prelude.{Result, Ok, Err, IsErrAnd}
+use Rattle.rules.specs.Book.{choose, State, state, on_run, signalled_by, next_word, here, Event, logical_end, physical_end, page_end, line_end, Mending, Answer, is_false, is_true, jump, answer_of}
+use Rattle.rules.specs.Step.{Told, signalled, Outcome, ended_by, refusal_number, told_by, event_as, Ending, Out, done, ends, Step, ◌>>=◌, and_then, caught, pure, halt, refuse_at, refusal, attempt, look, change, branch, test, need, outcome_giving, outcome, signal}
 use Rattle.rules.specs.Steps.{Action, Gives, answered, signals, signal_while, upon, stage, measure, execute}
-use Rattle.laws.specs.Follow.{refuse_by, followed}
+use Rattle.laws.specs.Follow.{refuse_by}
 use Rattle.laws.proofs.Validity.{Valid}
-use Rattle.laws.proofs.Progress.{Gain, Answered, Ready, Done, Site, site_lower, site_later, gain_less, gain_trans, From, from_start, from_trans, heard, answer, heard_gain, answered_gain, heard_took, site_default, default_gain}
+use Rattle.laws.proofs.Progress.{Gain, Answered, Ready, Done, Site, site_lower, site_later, gain_less, gain_trans, From, from_start, from_trans, heard, answer as answer_at, heard_gain, answered_gain, heard_took, site_default, default_gain}
 use Rattle.laws.proofs.Walk.{Post, post_done}
 use Rattle.laws.proofs.Unfolding.{On, execute_post}
 
@@ -79,7 +83,7 @@ pub look_then : {A B : Type 0} (f : State → A) (k : A → Step B) (s : State) 
 unfolding ◌>>=◌ look
 look_then f k s t = refl
 
-pub signal_then : {B : Type 0} (event : Event) (row : List ℕ) (k : Answer → Step B) (s : State) (t : List ℕ) → (signal event row >>= k) s t ≡ k (answer row s) (heard row s) t
+pub signal_then : {B : Type 0} (event : Event) (row : List ℕ) (k : Answer → Step B) (s : State) (t : List ℕ) → (signal event row >>= k) s t ≡ k (answer_at row s) (heard row s) t
 unfolding ◌>>=◌ signal
 signal_then event row k s t = refl
 
@@ -89,45 +93,33 @@ pass_on p q = p ∙ sym q
 
 -- ---- the code's outcome of a call
 
-by_going : {A : Type 0} (a : A) (o : Outcome) (t l p : List ℕ) {b : Bool} → going o.status ≡ b → outcome_giving a o t l p ≡ choose b (done a (state o.run l p) t) (ends (ending_by o) (state o.run l p) t)
-by_going a o t l p e = ap (λ (b : Bool). choose b (done a (state o.run l p) t) (ends (ending_by o) (state o.run l p) t)) e
+-- of a step that gives a value: it is done, or it ended the call
+module _ {A : Type 0} {o : Result (Taken A) EndedCall} {t l p : List ℕ} {x : Out A} (c : outcome_giving o t l p ≡ x) where
+  pub gives : {d : Taken A} → o ≡ Ok d → x ≡ done d.value (state d.run l p) t
+  gives e = sym c ∙ ap (λ (y : Result (Taken A) EndedCall). outcome_giving y t l p) e
 
-module _ {A : Type 0} (a : A) (o : Outcome) {t l p : List ℕ} {x : Out A} where
-  pub gives : outcome_giving a o t l p ≡ x → going o.status ≡ true → x ≡ done a (state o.run l p) t
-  gives c e = sym c ∙ by_going a o t l p e
-
-  pub gives_none : outcome_giving a o t l p ≡ x → going o.status ≡ false → x ≡ ends (ending_by o) (state o.run l p) t
-  gives_none c e = sym c ∙ by_going a o t l p e
-
-  -- what code hands on where a call ended, and where it is done
-  pub hands_none : x ≡ ends (ending_by o) (state o.run l p) t → going o.status ≡ false → outcome_giving a o t l p ≡ x
-  hands_none h e = by_going a o t l p e ∙ sym h
-
-  pub hands : x ≡ done a (state o.run l p) t → going o.status ≡ true → outcome_giving a o t l p ≡ x
-  hands h e = by_going a o t l p e ∙ sym h
+  pub gives_none : {d : EndedCall} → o ≡ Err d → x ≡ ends (ended_by d) (state d.run l p) t
+  gives_none e = sym c ∙ ap (λ (y : Result (Taken A) EndedCall). outcome_giving y t l p) e
 
 -- the same of a step that gives nothing
-module _ (o : Outcome) {t l p : List ℕ} {x : Out (Unit {0})} where
-  pub reached : outcome o t l p ≡ x → going o.status ≡ true → x ≡ done tt (state o.run l p) t
-  reached = gives tt o
+module _ {o : Outcome} {t l p : List ℕ} {x : Out (Unit {0})} (c : outcome o t l p ≡ x) where
+  pub reached : {r : Run} → o ≡ Ok r → x ≡ done tt (state r l p) t
+  reached e = sym c ∙ ap (λ (y : Outcome). outcome y t l p) e
 
-  pub halted : outcome o t l p ≡ x → going o.status ≡ false → x ≡ ends (ending_by o) (state o.run l p) t
-  halted = gives_none tt o
+  pub halted : {d : EndedCall} → o ≡ Err d → x ≡ ends (ended_by d) (state d.run l p) t
+  halted e = sym c ∙ ap (λ (y : Outcome). outcome y t l p) e
 
-  pub hands_on : x ≡ ends (ending_by o) (state o.run l p) t → going o.status ≡ false → outcome o t l p ≡ x
-  hands_on = hands_none tt o
+-- what `?` hands up is the error that it met
+pub handed_up : {T E : Type 0} {e : E} (r : Result T E) → IsErrAnd r (λ y. y ≡ e) → r ≡ Err e
+handed_up (Ok x) h = absurd h
+handed_up (Err y) h = ap Err h
 
-  pub hands_done : x ≡ done tt (state o.run l p) t → going o.status ≡ true → outcome o t l p ≡ x
-  hands_done = hands tt o
+module _ {t l p : List ℕ} (d : EndedCall) where
+  pub hands_up : {x : Out (Unit {0})} (o : Outcome) → IsErrAnd o (λ y. y ≡ d) → x ≡ ends (ended_by d) (state d.run l p) t → outcome o t l p ≡ x
+  hands_up o h e = ap (λ (y : Outcome). outcome y t l p) (handed_up o h) ∙ sym e
 
--- an outcome with a value put to it
-pub with_value : {A : Type 0} (a : A) (o : Outcome) (t l p : List ℕ) (f : Step (Unit {0})) (s : State) (t₀ : List ℕ) → outcome o t l p ≡ f s t₀ → outcome_giving a o t l p ≡ (f >>= λ _. pure a) s t₀
-unfolding ◌>>=◌ pure
-with_value a o t l p f s t₀ h = by (going o.status) ∙ ap (and_then (λ _. pure a)) h
-  where
-    by : (b : Bool) → choose b (done a (state o.run l p) t) (ends (ending_by o) (state o.run l p) t) ≡ and_then (λ _. pure a) (choose b (done (tt {0}) (state o.run l p) t) (ends (ending_by o) (state o.run l p) t))
-    by true = refl
-    by false = refl
+  pub gives_up : {A : Type 0} {x : Out A} (o : Result (Taken A) EndedCall) → IsErrAnd o (λ y. y ≡ d) → x ≡ ends (ended_by d) (state d.run l p) t → outcome_giving o t l p ≡ x
+  gives_up {A} o h e = ap (λ (y : Result (Taken A) EndedCall). outcome_giving y t l p) (handed_up o h) ∙ sym e
 
 -- an outcome over the lengths of a state
 abbrev pub outcome_at : Outcome → State → List ℕ → Out Unit
@@ -135,6 +127,9 @@ outcome_at o s t = outcome o t s.lengths.lines s.lengths.pages
 
 pub outcome_is : {o o' : Outcome} (s : State) (t : List ℕ) → o ≡ o' → outcome_at o s t ≡ outcome_at o' s t
 outcome_is s t h = ap (λ (x : Outcome). outcome_at x s t) h
+
+pub ending_is : {e e' : EndedCall} (s : State) (t : List ℕ) → e ≡ e' → outcome_at (Err e) s t ≡ outcome_at (Err e') s t
+ending_is s t h = ap (λ (x : EndedCall). outcome_at (Err x) s t) h
 
 -- ---- what a call has kept
 
@@ -148,56 +143,18 @@ post_done_of {E = E} {Q = Q} p e = post_of (subst (Post E Q) e p)
 pub done_of : (row : List ℕ) (action : Action) {s u : State} (t : List ℕ) {t' : List ℕ} {a : Gives action} → Ready row action s → execute row action s t ≡ done a u t' → Done row action s u
 done_of row action {s = s} t rd h = post_done_of (execute_post row action s t rd) h
 
--- ---- an answer that code has asked for at b: its word, its kind, and the running call after the event
+-- ---- an answer that code has asked for at b, and the running call after the event
 
-pub record Asked (row : List ℕ) (b : State) (w k : ℕ) (r : Run) : Type 0 where
-  pub word : w ≡ next_word row b.run
-  pub kind : k ≡ kind_of w
+pub record Asked (row : List ℕ) (b : State) (a : Answer) (r : Run) : Type 0 where
+  pub answer : a ≡ answer_at row b
   pub next : r ≡ signalled_by row b.run
 
-answer_false : (w : ℕ) → kind_of w ≡ 0 → answer_of w ≡ is_false
-unfolding answer_of
-answer_false w h = rw (eq-eqb (kind_of w) 0 h)
+module _ {row : List ℕ} {b : State} {a : Answer} {r : Run} (q : Asked row b a r) where
+  pub answer_is : {x : Answer} → a ≡ x → answer_at row b ≡ x
+  answer_is z = sym q.answer ∙ z
 
-answer_jump : (w : ℕ) → kind_of w ≡ 8 → answer_of w ≡ jump
-unfolding answer_of
-answer_jump w h = rw (eq-eqb (kind_of w) 8 h, ne_eqb (kind_of w) 0 (λ z. omega arith))
-
-answer_true : (w : ℕ) → (kind_of w ≡ 0 → ⊥) → (kind_of w ≡ 8 → ⊥) → answer_of w ≡ is_true (mending_of w)
-unfolding answer_of
-answer_true w h k = rw (ne_eqb (kind_of w) 0 h, ne_eqb (kind_of w) 8 k)
-
-not-false : (w : ℕ) → (kind_of w ≡ 0 → ⊥) → answer_of w ≡ is_false → ⊥
-not-false w h p = by (eqb (kind_of w) 8) refl
-  where
-    no : (a : Answer) → answer_of w ≡ a → (a ≡ is_false → ⊥) → ⊥
-    no a q n = n (sym q ∙ p)
-
-    jump_not : jump ≡ is_false → ⊥
-    jump_not q = let o : ◌≡◌ {A = ℕ} 0 1 = cc in omega arith
-
-    true_not : is_true (mending_of w) ≡ is_false → ⊥
-    true_not q = let o : ◌≡◌ {A = ℕ} 0 1 = cc in omega arith
-
-    by : (b : Bool) → eqb (kind_of w) 8 ≡ b → ⊥
-    by true e = no jump (answer_jump w (eqb-true (kind_of w) 8 e)) jump_not
-    by false e = no (is_true (mending_of w)) (answer_true w h (eqb-false (kind_of w) 8 e)) true_not
-
-module _ {row : List ℕ} {b : State} {w k : ℕ} {r : Run} (q : Asked row b w k r) where
-  kind_is : kind_of (next_word row b.run) ≡ k
-  kind_is = ap kind_of (sym q.word) ∙ sym q.kind
-
-  pub is_false_lem : k ≡ 0 → answer row b ≡ is_false
-  is_false_lem z = answer_false (next_word row b.run) (kind_is ∙ z)
-
-  pub is_jump : k ≡ 8 → answer row b ≡ jump
-  is_jump z = answer_jump (next_word row b.run) (kind_is ∙ z)
-
-  pub is_true_lem : (k ≡ 0 → ⊥) → (k ≡ 8 → ⊥) → answer row b ≡ is_true (mending_of w)
-  is_true_lem z j = answer_true (next_word row b.run) (λ h. z (sym kind_is ∙ h)) (λ h. j (sym kind_is ∙ h)) ∙ ap (λ (n : ℕ). is_true (mending_of n)) (sym q.word)
-
-  pub is_not_false : (k ≡ 0 → ⊥) → answer row b ≡ is_false → ⊥
-  is_not_false z = not-false (next_word row b.run) (λ h. z (sym kind_is ∙ h))
+  pub is_not_false : {m : Mending} → a ≡ is_true m → answer_at row b ≡ is_false → ⊥
+  is_not_false z h = let e = sym z ∙ q.answer ∙ h in let o : ◌≡◌ {A = ℕ} 0 1 = cc in omega arith
 
   -- the state after the event
   pub after_event : on_run b r ≡ heard row b
@@ -212,7 +169,7 @@ module _ {row : List ℕ} {self : Action} {s b : State} (m : From row self s b) 
   pub from_later : (action : Action) (u : State) → On row b u → Site row self s action u
   from_later action u o = let x = site_later row self b m.ready action u o.valid o.took o.gain in (x.0, omega (arith, x.1, m.closer))
 
-  module _ {w k : ℕ} {r : Run} (q : Asked row b w k r) where
+  module _ {a : Answer} {r : Run} (q : Asked row b a r) where
     -- the default of the event
     pub from_default : (other : Action) → stage other < stage self → Site row self s other (on_run b r)
     from_default other h =
@@ -222,7 +179,7 @@ module _ {row : List ℕ} {self : Action} {s b : State} (m : From row self s b) 
     pub on_default : {u : State} → Valid u → u.run.taken ≤ length row → Gain 16 r u.run → On row b u
     on_default {u} v t g = record { valid = v; took = t; gain = default_gain row self b u.run m.ready (subst (λ (y : Run). Gain 16 y u.run) q.next g) }
 
-    module _ (z : k ≡ 0 → ⊥) where
+    module _ {x : Mending} (z : a ≡ is_true x) where
       -- what follows a true answer
       pub from_answer : (action : Action) → Site row self s action (on_run b r)
       from_answer action = subst (λ (y : State). Site row self s action y) (sym (after_event q))
@@ -242,43 +199,31 @@ told_as line_end x = refl
 told_as Event.character x = refl
 told_as Event.value x = refl
 
-pub refuse_as : {A : Type 0} {e : code.Event} (event : Event) (n : ℕ) (s : State) (t : List ℕ) → e ≡ event_as event → refuse_by {A = A} e n s t ≡ refuse_at event n s t
+pub refuse_as : {A : Type 0} {e : code.Event} (r : Refusal) (event : Event) (n : ℕ) (s : State) (t : List ℕ) → e ≡ event_as event → refusal_number r ≡ n → refuse_by {A = A} e r s t ≡ refuse_at event n s t
 unfolding halt
-refuse_as event n s t i = ap (λ (z : code.Event). ends (record { number = n; stop = 0; told = told_by z (here s) }) s t) i ∙ ap (λ (z : Told). ends (record { number = n; stop = 0; told = z }) s t) (told_as event (here s))
+refuse_as r event n s t i j = ap (λ (z : code.Event). ends (record { number = refusal_number r; stop = 0; told = told_by z (here s) }) s t) i
+    ∙ ap (λ (m : ℕ). ends (record { number = m; stop = 0; told = told_by (event_as event) (here s) }) s t) j
+    ∙ ap (λ (z : Told). ends (record { number = n; stop = 0; told = z }) s t) (told_as event (here s))
 
-module _ (row : List ℕ) (event : Event) (reading : Bool) (default : Step (Unit {0})) {b : State} (t : List ℕ) {w k : ℕ} {r : Run} (q : Asked row b w k r) where
-  pub signals_default : k ≡ 0 → signals row (execute row) event reading default b t ≡ default (on_run b r) t
+module _ (row : List ℕ) (event : Event) (reading : Bool) (default : Step (Unit {0})) {b : State} (t : List ℕ) {a : Answer} {r : Run} (q : Asked row b a r) where
+  signals_answer : {x : Answer} → a ≡ x → signals row (execute row) event reading default b t ≡ upon event x (λ m. execute row (answered reading m)) default (on_run b r) t
   unfolding signals
-  signals_default z = signal_then event row _ b t ∙ ap (λ (a : Answer). upon event a (λ m. execute row (answered reading m)) default (heard row b) t) (is_false_lem q z) ∙ ap (λ (y : State). default y t) (sym (after_event q))
+  signals_answer {x} z = signal_then event row _ b t ∙ ap (λ (y : Answer). upon event y (λ m. execute row (answered reading m)) default (heard row b) t) (answer_is q z)
+      ∙ ap (λ (y : State). upon event x (λ m. execute row (answered reading m)) default y t) (sym (after_event q))
 
-  pub signals_followed : (k ≡ 0 → ⊥) → {e : code.Event} → e ≡ event_as event → signals row (execute row) event reading default b t ≡ followed row e reading w (on_run b r) t
-  unfolding signals
-  signals_followed z {e = e'} i = signal_then event row _ b t ∙ by (eqb k 8) refl
-    where
-      by : (c : Bool) → eqb k 8 ≡ c → upon event (answer row b) (λ m. execute row (answered reading m)) default (heard row b) t ≡ followed row e' reading w (on_run b r) t
-      by true e =
-          let j : k ≡ 8 = eqb-true k 8 e in
-          ap (λ (a : Answer). upon event a (λ m. execute row (answered reading m)) default (heard row b) t) (is_jump q j)
-          ∙ ap (λ (y : State). refuse_at {A = Unit {0}} event 11 y t) (sym (after_event q)) ∙ sym (refuse_as event 11 (on_run b r) t i) ∙ sym (branch_true _ _ (on_run b r) t (ap (λ (n : ℕ). eqb n 8) (sym q.kind) ∙ e))
-      by false e =
-          let j : k ≡ 8 → ⊥ = eqb-false k 8 e in
-          ap (λ (a : Answer). upon event a (λ m. execute row (answered reading m)) default (heard row b) t) (is_true_lem q z j)
-          ∙ ap (λ (y : State). execute row (answered reading (mending_of w)) y t) (sym (after_event q)) ∙ sym (branch_false _ _ (on_run b r) t (ap (λ (n : ℕ). eqb n 8) (sym q.kind) ∙ e))
+  pub signals_default : a ≡ is_false → signals row (execute row) event reading default b t ≡ default (on_run b r) t
+  signals_default z = signals_answer z
+
+  pub signals_jumps : a ≡ jump → {e : code.Event} → e ≡ event_as event → signals row (execute row) event reading default b t ≡ refuse_by e ProgramJumped (on_run b r) t
+  signals_jumps z i = signals_answer z ∙ sym (refuse_as ProgramJumped event 11 (on_run b r) t i refl)
+
+  pub signals_answered : {m : Mending} → a ≡ is_true m → signals row (execute row) event reading default b t ≡ execute row (answered reading m) (on_run b r) t
+  signals_answered z = signals_answer z
 
 -- what follows a true answer, when it is done
-pub followed_done : (row : List ℕ) (event : code.Event) (reading : Bool) (w : ℕ) (s : State) {u : State} (t : List ℕ) {t' : List ℕ} → followed row event reading w s t ≡ done tt u t' → execute row (answered reading (mending_of w)) s t ≡ done tt u t'
-unfolding branch halt
-followed_done row event reading w s {u} t {t'} h = by (eqb (kind_of w) 8) h
-  where
-    by : (c : Bool) → branch c (refuse_by event 11) (execute row (answered reading (mending_of w))) s t ≡ done tt u t' → execute row (answered reading (mending_of w)) s t ≡ done tt u t'
-    by true p = absurd (let o : ◌≡◌ {A = ℕ} 0 1 = cc in omega arith)
-    by false p = p
-
-pub followed_on : {row : List ℕ} {self : Action} {s b : State} (m : From row self s b) {w k : ℕ} {r : Run} (q : Asked row b w k r) (z : k ≡ 0 → ⊥) (event : code.Event) (reading : Bool) (t : List ℕ) {u : State} {t' : List ℕ}
-    → followed row event reading w (on_run b r) t ≡ done tt u t' → On row b u
-followed_on {row} {b = b} m {w} {k} {r} q z event reading t {u} h =
-    let d = done_of row (answered reading (mending_of w)) t (from_answer m q z (answered reading (mending_of w))).0 (followed_done row event reading w (on_run b r) t h) in
-    on_answer m q z d.valid d.took d.claim
+pub answered_on : {row : List ℕ} {self : Action} {s b : State} (m : From row self s b) {a : Answer} {r : Run} (q : Asked row b a r) {x : Mending} (z : a ≡ is_true x) (reading : Bool) (t : List ℕ) {u : State} {t' : List ℕ}
+    → execute row (answered reading x) (on_run b r) t ≡ done tt u t' → On row b u
+answered_on {row} m q {x} z reading t h = let d = done_of row (answered reading x) t (from_answer m q z (answered reading x)).0 h in on_answer m q z d.valid d.took d.claim
 
 -- ---- while a test holds
 

@@ -4,9 +4,13 @@
 
 ghost use Rattle.std.specs.Prelude.{◌≡◌, []};
 ghost use Rattle.rules.specs.Calls.{book, call, after, asking, spaces, newlines, newpages, sets, sets_character_number};
-ghost use Rattle.layout.specs.Again.{mood_again};
+ghost use Rattle.rules.specs.Book.{state};
+ghost use Rattle.rules.specs.Step.{outcome};
+ghost use Rattle.rules.specs.Steps.{Action};
+ghost use Rattle.rules.specs.Ready.{Ready};
+ghost use Rattle.layout.specs.Again.{mood_again, placed};
 
-use rules::{File, Position, Reply, Run};
+use rules::{File, Outcome, Position, Reply, Run};
 
 // Space: past a character, reading; a blank put, writing past the end of what is written.
 pub fn space(
@@ -20,12 +24,10 @@ pub fn space(
     ensures { after result [] text.new lines.new pages.new ≡ call (asking spaces row.now) file (book text.old lines.old pages.old end) }
 {
     let start = entry::start(file, end);
-    let o = begins::in_mood(start, text, lines, pages, row);
-    if !running::goes_on(o) {
-        return entry::ended(o);
+    match begins::in_mood(start, text, lines, pages, row) {
+        Ok(on) => entry::ended(lines::space(on, file.reading, text, lines, pages, row)),
+        Err(ended) => entry::ended(Err(ended)),
     }
-    let after = lines::space(o.run, file.reading, text, lines, pages, row);
-    entry::ended(after)
 }
 
 // Newline: to the start of the next line.
@@ -40,12 +42,10 @@ pub fn newline(
     ensures { after result [] text.new lines.new pages.new ≡ call (asking newlines row.now) file (book text.old lines.old pages.old end) }
 {
     let start = entry::start(file, end);
-    let o = begins::in_mood(start, text, lines, pages, row);
-    if !running::goes_on(o) {
-        return entry::ended(o);
+    match begins::in_mood(start, text, lines, pages, row) {
+        Ok(on) => entry::ended(lines::newline(on, file.reading, text, lines, pages, row)),
+        Err(ended) => entry::ended(Err(ended)),
     }
-    let after = lines::newline(o.run, file.reading, text, lines, pages, row);
-    entry::ended(after)
 }
 
 // Newpage: to the start of the next page.
@@ -60,12 +60,10 @@ pub fn newpage(
     ensures { after result [] text.new lines.new pages.new ≡ call (asking newpages row.now) file (book text.old lines.old pages.old end) }
 {
     let start = entry::start(file, end);
-    let o = begins::in_mood(start, text, lines, pages, row);
-    if !running::goes_on(o) {
-        return entry::ended(o);
+    match begins::in_mood(start, text, lines, pages, row) {
+        Ok(on) => entry::ended(events::newpage(on, file.reading, text, lines, pages, row)),
+        Err(ended) => entry::ended(Err(ended)),
     }
-    let after = events::newpage(o.run, file.reading, text, lines, pages, row);
-    entry::ended(after)
 }
 
 // Set char number: to a place on the line.
@@ -81,25 +79,46 @@ pub fn set_character_number(
     ensures { after result [] text.new lines.new pages.new ≡ call (asking (sets_character_number n) row.now) file (book text.old lines.old pages.old end) }
 {
     let start = entry::start(file, end);
-    let o = begins::in_mood(start, text, lines, pages, row);
-    if !running::goes_on(o) {
-        return entry::ended(o);
+    match begins::in_mood(start, text, lines, pages, row) {
+        Ok(on) => entry::ended(lines::set_character_number(
+            on,
+            file.reading,
+            n,
+            text,
+            lines,
+            pages,
+            row,
+        )),
+        Err(ended) => entry::ended(Err(ended)),
     }
-    let after = lines::set_character_number(o.run, file.reading, n, text, lines, pages, row);
-    entry::ended(after)
 }
 
 // "the call's mood is set again", if there is one.
 pub fn mood_again(run: Run, file: File) -> Run
     ensures { result ≡ mood_again run file }
 {
-    if file.reading {
-        return running::in_mood(run, true);
+    if file.reading || file.writing {
+        running::in_mood(run, file.reading)
+    } else {
+        run
     }
-    if file.writing {
-        return running::in_mood(run, false);
-    }
-    run
+}
+
+// Set after its tests: the place, and the call's mood again.
+pub fn placed(
+    run: Run,
+    file: File,
+    to: Position,
+    text: &mut [u8],
+    lines: &mut [u8],
+    pages: &mut [u8],
+    row: &[u32],
+) -> Outcome
+    requires { Ready row.now (Action.set_to to) (state run lines.old pages.old) }
+    ensures { outcome result text.new lines.new pages.new ≡ placed row.now to file (state run lines.old pages.old) text.old }
+{
+    let after = events::set_to(run, to, text, lines, pages, row)?;
+    Ok(mood_again(after, file))
 }
 
 // Set: to a place in the book.
@@ -115,15 +134,8 @@ pub fn set(
     ensures { after result [] text.new lines.new pages.new ≡ call (asking (sets to) row.now) file (book text.old lines.old pages.old end) }
 {
     let start = entry::start(file, end);
-    let o = begins::may_set(start, text, lines, pages, row);
-    if !running::goes_on(o) {
-        return entry::ended(o);
+    match begins::may_set(start, text, lines, pages, row) {
+        Ok(on) => entry::ended(placed(on, file, to, text, lines, pages, row)),
+        Err(ended) => entry::ended(Err(ended)),
     }
-    let after = events::set_to(o.run, to, text, lines, pages, row);
-    if !running::goes_on(after) {
-        return entry::ended(after);
-    }
-    let again = mood_again(after.run, file);
-    let done = running::finish(again);
-    entry::ended(done)
 }

@@ -9,7 +9,7 @@ use borrow.Author.Tests.{le-leb, lt-leb, eqb-true, eqb-false}
 use Rattle.rules.specs.declared.Run.{Run}
 use mathlib.Core.Logic.{inl, inr}
 use native.Mathlib.Omega.{arith}
-use Rattle.rules.specs.Book.{choose, within, State, kind_of, page_of, line_of, character_of, next_word, mending_of, suggested, word_fits, all_words_fit, row_fits}
+use Rattle.rules.specs.Book.{choose, within, State, kind_of, page_of, line_of, character_of, next_word, Mending, mending_of, is_false, jump, is_true, answer_of, suggested, word_fits, all_words_fit, row_fits}
 use Rattle.rules.specs.Step.{file_ended, page_ended, line_ended}
 use Rattle.laws.proofs.Progress.{LineGood}
 use Rattle.places.specs.Good.{line_good}
@@ -82,6 +82,16 @@ all_small [] j b h k = none_small b k
 all_small (w ∷ ws) zero b h k = word_small w b (and_l (word_fits w) (all_words_fit ws) h) k
 all_small (w ∷ ws) (suc j) b h k = all_small ws j b (and_r (word_fits w) (all_words_fit ws) h) k
 
-pub word_suggests : (row : List ℕ) (r : Run) → T (row_fits row) → (b : ℕ) → b < 256 → {w : ℕ} → w ≡ next_word row r → suggested (mending_of w) b < 256
+-- what such a word does, where it is true
+mend_of : (w : ℕ) {m : Mending} → answer_of w ≡ is_true m → mending_of w ≡ m
+unfolding answer_of
+mend_of w {m} h = by (eqb (kind_of w) 0) (eqb (kind_of w) 8) h
+  where
+    by : (a b : Bool) → choose a is_false (choose b jump (is_true (mending_of w))) ≡ is_true m → mending_of w ≡ m
+    by true b p = absurd (let o : ◌≡◌ {A = ℕ} 0 1 = cc in omega arith)
+    by false true p = absurd (let o : ◌≡◌ {A = ℕ} 0 1 = cc in omega arith)
+    by false false p = cc
+
+pub word_suggests : (row : List ℕ) (r : Run) → T (row_fits row) → (b : ℕ) → b < 256 → {m : Mending} → answer_of (next_word row r) ≡ is_true m → suggested m b < 256
 unfolding next_word row_fits
-word_suggests row r h b k e = subst (λ (w : ℕ). suggested (mending_of w) b < 256) (sym e) (all_small row r.taken b (and_r (leb (length row) 64) _ h) k)
+word_suggests row r h b k e = subst (λ (m : Mending). suggested m b < 256) (mend_of (next_word row r) e) (all_small row r.taken b (and_r (leb (length row) 64) _ h) k)

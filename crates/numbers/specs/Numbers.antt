@@ -7,7 +7,6 @@ use Rattle.rules.specs.Book.{choose, Event, logical_end, physical_end, page_end,
 use Rattle.rules.specs.Step.{Told, none, signalled}
 use Rattle.rules.specs.Calls.{Value, nothing, a_character, an_integer, After, after, book}
 use Rattle.numbers.specs.declared.CallResult.{CallResult}
-use Rattle.numbers.specs.declared.Left.{Left}
 
 -- what is given, by its number: 1 a character, 2 an integer, any other nothing
 abbrev pub value_in : ℕ → ℤ → Value
@@ -31,12 +30,9 @@ after_numbers f r buffer t l p = record {
 }
 
 -- a reply in numbers: the record is left where its event was signalled
-abbrev pub result_of : Reply → ℕ → ℕ → ℕ → ℕ → ℤ → Left
-result_of r number stop event given value = record {
-  file = r.file;
-  result = record { number = number; stop = stop; given = given; event = event; value = value; events = r.events; taken = r.taken; count = r.count; end = r.end; signalled = r.file.position };
-}
+abbrev pub result_of : Reply → ℕ → ℕ → ℕ → ℕ → ℤ → CallResult
+result_of r number stop event given value = record { number = number; stop = stop; given = given; event = event; value = value; events = r.events; taken = r.taken; count = r.count; end = r.end; signalled = r.file.position }
 
 -- a record and a result that say what a reply says, whatever the call lent
-pub record InNumbers (reply : Reply) (x : Left) : Type 0 where
-  pub reads : (buffer t l p : List ℕ) → after_numbers x.file x.result buffer t l p ≡ after reply buffer t l p
+pub record InNumbers (reply : Reply) (file : File) (x : CallResult) : Type 0 where
+  pub reads : (buffer t l p : List ℕ) → after_numbers file x buffer t l p ≡ after reply buffer t l p

@@ -1,8 +1,8 @@
 // Positions and lengths: order, bounds, and where a line or a character stands among what is lent.
 #![tactic(auto)]
 
-ghost use Rattle.std.specs.Prelude.{◌≡◌, ◌-◌, ◌≤◌, ◌<◌, ◌^◌, ltb, get_or};
-ghost use Rattle.rules.specs.Book.{choose, place, before, lengths, page_length, line_index, line_length, character_index, in_bounds, state};
+ghost use Rattle.std.specs.Prelude.{◌≡◌, ◌-◌, ◌≤◌, ◌<◌, ◌^◌, get_or};
+ghost use Rattle.rules.specs.Book.{place, before, lengths, page_length, line_index, line_length, character_index, in_bounds, state};
 ghost use Rattle.rules.specs.Step.{file_ended, page_ended, line_ended, on_end_line};
 ghost use Rattle.places.specs.Small.{Small};
 ghost use Rattle.places.specs.Good.{page_good, line_good};
@@ -10,50 +10,27 @@ ghost use Rattle.places.specs.Good.{page_good, line_good};
 use rules::{Position, Run, Shape};
 
 // Whether x stands before y.
+#[tactic(auto, unfolding(rules::specs::Book::before))]
 pub fn is_before(x: Position, y: Position) -> bool
     ensures { result ≡ before x y }
 {
-    if x.page == y.page {
-        if x.line == y.line {
-            x.character < y.character
-        } else {
-            x.line < y.line
-        }
-    } else {
-        x.page < y.page
-    }
-}
-
-// The greater of two bytes.
-pub fn greater(a: u8, b: u8) -> u8
-    ensures { result ≡ choose (ltb a b) b a }
-{
-    if a < b { b } else { a }
+    x < y
 }
 
 // A byte as a number to count with.
 pub fn wide(b: u8) -> usize
     ensures { result ≡ b }
 {
-    b as usize
-}
-
-// The lesser of two bytes.
-pub fn lesser(a: u8, b: u8) -> u8
-    ensures { result ≡ choose (ltb a b) a b }
-{
-    if a < b { a } else { b }
+    usize::from(b)
 }
 
 // Good file's test.
+#[tactic(auto, unfolding(rules::specs::Step::file_ended))]
 pub fn file_ended(run: Run, reading: bool) -> bool
     ensures { result ≡ file_ended reading run }
 {
-    let position = run.file.position;
-    let end = run.end;
     if reading {
-        let inside = is_before(position, end);
-        !inside
+        !is_before(run.file.position, run.end)
     } else {
         run.file.shape.pages < run.file.position.page
     }
@@ -63,19 +40,15 @@ pub fn file_ended(run: Run, reading: bool) -> bool
 pub fn previous(n: usize) -> usize
     ensures { result ≡ n - 1 }
 {
-    if 0 < n { n - 1 } else { 0 }
+    n.saturating_sub(1)
 }
 
 // The length of a page, 0 where it is not there.
+#[tactic(auto, unfolding(rules::specs::Book::page_length))]
 pub fn page_length(pages: &[u8], page: usize) -> usize
     ensures { (result ≡ page_length pages.now page) × (result ≤ 255) }
 {
-    let i = previous(page);
-    if i < pages.len() {
-        pages[i] as usize
-    } else {
-        0
-    }
+    usize::from(pages.get(page.saturating_sub(1)).copied().unwrap_or(0))
 }
 
 // Good page's test.
@@ -89,14 +62,11 @@ pub fn page_ended(run: Run, pages: &[u8]) -> bool
 pub fn on_end_line(run: Run) -> bool
     ensures { result ≡ on_end_line run }
 {
-    if run.file.position.page == run.end.page {
-        run.file.position.line == run.end.line
-    } else {
-        false
-    }
+    run.file.position.page == run.end.page && run.file.position.line == run.end.line
 }
 
 // Where the length of a line stands.
+#[tactic(auto, unfolding(rules::specs::Book::line_index))]
 pub fn line_index(shape: Shape, page: usize, line: usize) -> usize
     requires { Small shape page line }
     ensures { (result ≡ line_index shape page line) × (result < 2 ^ 16) }
@@ -105,18 +75,20 @@ pub fn line_index(shape: Shape, page: usize, line: usize) -> usize
 }
 
 // The length of a line, 0 where it is not there.
+#[tactic(auto, unfolding(rules::specs::Book::line_length))]
 pub fn line_length(shape: Shape, lines: &[u8], pages: &[u8], page: usize, line: usize) -> usize
     requires { Small shape page line }
     ensures { (result ≡ line_length shape (lengths lines.now pages.now) page line) × (result ≤ 255) }
 {
-    if line <= page_length(pages, page) {
-        let i = line_index(shape, page, line);
-        if i < lines.len() {
-            return lines[i] as usize;
-        }
+    if page_length(pages, page) < line {
         return 0;
     }
-    0
+    usize::from(
+        lines
+            .get(line_index(shape, page, line))
+            .copied()
+            .unwrap_or(0),
+    )
 }
 
 // Good line's test.
@@ -141,25 +113,18 @@ pub fn line_good(run: Run, reading: bool, lines: &[u8], pages: &[u8]) -> bool
     requires le_character { 1 ≤ run.file.position.character }
     ensures { result ≡ line_good reading (state run lines.now pages.now) }
 {
-    if file_ended(run, reading) {
-        return false;
-    }
-    let ended = line_ended(run, lines, pages);
-    !ended
+    !file_ended(run, reading) && !line_ended(run, lines, pages)
 }
 
 // Whether the position is in a good page: neither test is met.
 pub fn page_good(run: Run, reading: bool, pages: &[u8]) -> bool
     ensures { result ≡ page_good reading run pages.now }
 {
-    if file_ended(run, reading) {
-        return false;
-    }
-    let ended = page_ended(run, pages);
-    !ended
+    !file_ended(run, reading) && !page_ended(run, pages)
 }
 
 // Where a character stands in the text.
+#[tactic(auto, unfolding(rules::specs::Book::character_index))]
 pub fn character_index(shape: Shape, page: usize, line: usize, character: usize) -> usize
     requires small { Small shape page line }
     requires le_character { (1 ≤ character) × (character ≤ 256) }
@@ -181,31 +146,16 @@ pub fn character_here(run: Run, text: &[u8]) -> u8
         run.file.position.line,
         run.file.position.character,
     );
-    if i < text.len() { text[i] } else { 0 }
+    text.get(i).copied().unwrap_or(0)
 }
 
 // Whether a place is in bounds.
+#[tactic(auto, unfolding(rules::specs::Book::in_bounds, rules::specs::Book::within))]
 pub fn in_bounds(shape: Shape, lines: &[u8], pages: &[u8], to: Position) -> bool
     requires { (shape.pages ≤ 255) × (shape.lines ≤ 255) × (shape.characters ≤ 255) }
     ensures { result ≡ in_bounds shape (lengths lines.now pages.now) to }
 {
-    let page = to.page;
-    let line = to.line;
-    let character = to.character;
-    if page < 1 {
-        return false;
-    }
-    if shape.pages + 1 < page {
-        return false;
-    }
-    if line < 1 {
-        return false;
-    }
-    if page_length(pages, page) + 1 < line {
-        return false;
-    }
-    if character < 1 {
-        return false;
-    }
-    character <= line_length(shape, lines, pages, page, line) + 1
+    (1..=shape.pages + 1).contains(&to.page)
+        && (1..=page_length(pages, to.page) + 1).contains(&to.line)
+        && (1..=line_length(shape, lines, pages, to.page, to.line) + 1).contains(&to.character)
 }

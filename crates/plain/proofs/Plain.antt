@@ -10,14 +10,16 @@ use lib.Seq.{sets, sets-eq, drop-length}
 use Rattle.rules.specs.declared.Position.{Position}
 use Rattle.rules.specs.declared.File.{File}
 use Rattle.rules.specs.declared.Run.{Run}
-use Rattle.rules.specs.declared.Outcome.{Outcome}
+use Rattle.rules.specs.declared.Refusal.{Refusal}
+use Rattle.rules.specs.declared.Refusal.TheVariants.{BadBook, RightMissing, OutOfRange}
+use Rattle.std.specs.Prelude.{Ok, Err}
 use Rattle.rules.specs.declared.Reply.{Reply}
 use Rattle.rules.specs.Book.{choose, State, state, on_run, run_with, with_file, file_as, file_choosing, file_opened, rewound, place, moved_to, previous_character, here, rights_of, shape_fits, book_fits}
-use Rattle.rules.specs.Step.{done, ends, Step, ◌>>=◌, ◌>>◌, pure, refusal, size, change, outcome, done_by, refused_by, reset, backspace}
+use Rattle.rules.specs.Step.{Outcome, refusal_number, done, ends, Step, ◌>>=◌, ◌>>◌, and_then, pure, refusal, size, change, outcome, done_by, refused_by, reset, backspace}
 use Rattle.rules.specs.Calls.{Value, nothing, begin, established, establishing, opening, closing, choosing, resetting, backspacing, leave, after, book, call, work, plain_work, buffer_of, plain, establishes, opens, closes, chooses, resets, backspaces}
 use Rattle.running.specs.Outcomes.{reset_by, backspaced_by}
-use Rattle.laws.proofs.Ways.{need_true, need_false, change_then, with_value}
-use Rattle.entry.specs.Before.{before_work, refused_reply, ended_reply}
+use Rattle.laws.proofs.Ways.{need_true, need_false, change_then}
+use Rattle.entry.specs.Before.{Tested, before_work, refused_reply, ended_reply}
 use Rattle.begins.proofs.Begins.{start_of, checked_on, reply_refused, reply_nothing}
 use Rattle.plain.specs.Done.{done_reply}
 
@@ -40,8 +42,8 @@ module _ (file : File) (end : Position) (t l p : List ℕ) where
   abbrev start : State
   start = start_of file end l p
 
-  abbrev Refuses : Step Value → ℕ → Type 0
-  Refuses f number = f start t ≡ ends (refusal number) start t
+  abbrev Refuses : Step Value → Refusal → Type 0
+  Refuses f n = f start t ≡ ends (refusal (refusal_number n)) start t
 
   abbrev Does : Step Value → File → Position → Type 0
   Does f g x = f start t ≡ done nothing (start_of g x l p) t
@@ -49,17 +51,19 @@ module _ (file : File) (end : Position) (t l p : List ℕ) where
   -- ---- as replies
 
   module _ {r : Run} (er : r ≡ run_with file end 0 0) where
-    pub refused_as : (f : Step Value) (number : ℕ) → Refuses f number → {reply : Reply} → reply ≡ refused_reply r number → after reply [] t l p ≡ leave [] (f start t)
+    pub refused_as : (f : Step Value) (number : Refusal) → Refuses f number → {reply : Reply} → reply ≡ refused_reply r number → after reply [] t l p ≡ leave [] (f start t)
     refused_as f number h q = ap (λ (y : Reply). after y [] t l p) (q ∙ ap (λ (x : Run). refused_reply x number) er) ∙ reply_refused [] (run_with file end 0 0) number t l p h
 
   pub done_as : (f : Step Value) (g : File) (x : Position) (l' p' : List ℕ) → f start t ≡ done nothing (start_of g x l' p') t → {reply : Reply} → reply ≡ done_reply g x → after reply [] t l' p' ≡ leave [] (f start t)
+  unfolding pure
   done_as f g x l' p' h q = ap (λ (y : Reply). after y [] t l' p') q ∙ reply_nothing [] (done_by (run_with g x 0 0)) t l' p' (sym h)
 
-  pub outcome_as : (f : Step (Unit {0})) (o : Outcome) → outcome o t l p ≡ f start t → {reply : Reply} → reply ≡ ended_reply o → after reply [] t l p ≡ leave [] ((f >> pure nothing) start t)
-  outcome_as f o h q = ap (λ (y : Reply). after y [] t l p) q ∙ reply_nothing [] o t l p (with_value nothing o t l p f start t h)
+  outcome_as : (f : Step (Unit {0})) (o : Outcome) → outcome o t l p ≡ f start t → {reply : Reply} → reply ≡ ended_reply o → after reply [] t l p ≡ leave [] ((f >> pure nothing) start t)
+  unfolding ◌>>=◌
+  outcome_as f o h q = ap (λ (y : Reply). after y [] t l p) q ∙ reply_nothing [] o t l p (ap (and_then (λ _. pure nothing)) h)
 
   -- work that gives nothing, after the tests
-  pub worked_as : (f : Step (Unit {0})) {k : ℕ} → k ≡ before_work (length t) start → k ≡ 0 → (o : Outcome) → outcome o t l p ≡ f start t → {reply : Reply} → reply ≡ ended_reply o → after reply [] t l p ≡ leave [] (begin (f >> pure nothing) start t)
+  pub worked_as : (f : Step (Unit {0})) {k : Tested} → k ≡ before_work (length t) start → {u : Unit {0}} → k ≡ Ok u → (o : Outcome) → outcome o t l p ≡ f start t → {reply : Reply} → reply ≡ ended_reply o → after reply [] t l p ≡ leave [] (begin (f >> pure nothing) start t)
   worked_as f h z o c q = outcome_as f o c q ∙ sym (ap (leave []) (checked_on (f >> pure nothing) t h z))
 
   -- ---- the calls
@@ -90,12 +94,12 @@ module _ (file : File) (end : Position) (t l p : List ℕ) where
 
   -- ---- establish
 
-  pub establish_shape : shape_fits (length t) start ≡ false → Refuses establishing 3
+  pub establish_shape : shape_fits (length t) start ≡ false → Refuses establishing BadBook
   unfolding establishing size ◌>>=◌
   establish_shape e = need_false 3 (shape_fits (length t)) _ start t e
 
   module _ (e : shape_fits (length t) start ≡ true) where
-    pub establish_right : file.rights.put ≡ false → Refuses establishing 4
+    pub establish_right : file.rights.put ≡ false → Refuses establishing RightMissing
     unfolding establishing size ◌>>=◌
     establish_right n = need_true 3 (shape_fits (length t)) _ start t e ∙ need_false 4 (λ s. (rights_of s).put) _ start t n
 
@@ -108,7 +112,7 @@ module _ (file : File) (end : Position) (t l p : List ℕ) where
 
   -- ---- open
 
-  pub open_book : book_fits (length t) start ≡ false → Refuses opening 3
+  pub open_book : book_fits (length t) start ≡ false → Refuses opening BadBook
   unfolding opening size ◌>>=◌
   open_book e = need_false 3 (book_fits (length t)) _ start t e
 
@@ -137,7 +141,7 @@ module _ (file : File) (end : Position) (t l p : List ℕ) where
   pub reset_outcome : outcome (reset_by (run_with file end 0 0)) t l p ≡ reset start t
   reset_outcome = by file.rights.reset refl
     where
-      by : (b : Bool) → file.rights.reset ≡ b → outcome (choose b (done_by (with_file (run_with file end 0 0) (rewound file))) (refused_by (run_with file end 0 0) 4)) t l p ≡ reset start t
+      by : (b : Bool) → file.rights.reset ≡ b → outcome (choose b (done_by (with_file (run_with file end 0 0) (rewound file))) (Err (refused_by (run_with file end 0 0) RightMissing))) t l p ≡ reset start t
       by true e = sym (reset_yes e)
       by false e = sym (reset_no e)
 
@@ -152,6 +156,6 @@ module _ (file : File) (end : Position) (t l p : List ℕ) where
   pub backspace_outcome : outcome (backspaced_by (run_with file end 0 0)) t l p ≡ backspace start t
   backspace_outcome = by (ltb 1 file.position.character) refl
     where
-      by : (b : Bool) → ltb 1 file.position.character ≡ b → outcome (choose b (done_by (moved_to (run_with file end 0 0) (previous_character file.position))) (refused_by (run_with file end 0 0) 6)) t l p ≡ backspace start t
+      by : (b : Bool) → ltb 1 file.position.character ≡ b → outcome (choose b (done_by (moved_to (run_with file end 0 0) (previous_character file.position))) (Err (refused_by (run_with file end 0 0) OutOfRange))) t l p ≡ backspace start t
       by true e = sym (backspace_yes e)
       by false e = sym (backspace_no e)

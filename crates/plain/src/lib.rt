@@ -7,47 +7,48 @@ ghost use Rattle.rules.specs.Book.{place, file_as, file_choosing, file_opened, r
 ghost use Rattle.plain.specs.Done.{done_reply};
 ghost use Rattle.rules.specs.Calls.{book, call, after, plain, establishes, opens, closes, chooses, resets, backspaces};
 
-use rules::{File, Position, Reply};
+use rules::{File, Position, Refusal, Reply};
+
+// Where a book begins.
+const FIRST: Position = Position {
+    page: 1,
+    line: 1,
+    character: 1,
+};
 
 // The record that establish leaves: open, in write mood, at (1,1,1).
 pub fn established(file: File) -> File
     ensures { result ≡ file_as file true false true (place 1 1 1) false }
 {
-    let mut r = file;
-    r.opened = true;
-    r.reading = false;
-    r.writing = true;
-    r.split = false;
-    r.position.page = 1;
-    r.position.line = 1;
-    r.position.character = 1;
-    r
+    File {
+        opened: true,
+        reading: false,
+        writing: true,
+        split: false,
+        position: FIRST,
+        ..file
+    }
 }
 
 // The record that open leaves: open, its moods by its rights, at (1,1,1).
 pub fn opened(file: File) -> File
     ensures { result ≡ file_choosing (rewound (file_opened file true)) false }
 {
-    let mut r = file;
-    let reading = !file.rights.put;
-    let writing = !file.rights.get;
-    r.opened = true;
-    r.reading = reading;
-    r.writing = writing;
-    r.split = false;
-    r.position.page = 1;
-    r.position.line = 1;
-    r.position.character = 1;
-    r
+    File {
+        opened: true,
+        reading: !file.rights.put,
+        writing: !file.rights.get,
+        split: false,
+        position: FIRST,
+        ..file
+    }
 }
 
 // A call that is done, with the record and the logical end that it leaves.
 pub fn done(file: File, end: Position) -> Reply
     ensures { result ≡ done_reply file end }
 {
-    let run = entry::start(file, end);
-    let o = running::finish(run);
-    entry::ended(o)
+    entry::ended(Ok(entry::start(file, end)))
 }
 
 // Establishes a book over lent memory: every length full, and no character wiped.
@@ -62,21 +63,16 @@ pub fn establish(
 {
     let start = entry::start(file, end);
     if !entry::shape_fits(start, text, lines, pages) {
-        return entry::refuse(start, 3);
+        return entry::refuse(start, Refusal::BadBook);
     }
     if !file.rights.put {
-        return entry::refuse(start, 4);
+        return entry::refuse(start, Refusal::RightMissing);
     }
     let all_lines = lines.len();
     let all_pages = pages.len();
     stores::fill(lines, 0, all_lines, file.shape.characters as u8);
     stores::fill(pages, 0, all_pages, file.shape.lines as u8);
-    let first = Position {
-        page: 1,
-        line: 1,
-        character: 1,
-    };
-    done(established(file), first)
+    done(established(file), FIRST)
 }
 
 // Opens a book with the logical end that it has.
@@ -85,7 +81,7 @@ pub fn open(file: File, end: Position, text: &[u8], lines: &[u8], pages: &[u8]) 
 {
     let start = entry::start(file, end);
     if !entry::book_fits(start, text, lines, pages) {
-        return entry::refuse(start, 3);
+        return entry::refuse(start, Refusal::BadBook);
     }
     done(opened(file), end)
 }
@@ -95,9 +91,8 @@ pub fn close(file: File, end: Position, text: &[u8], lines: &[u8], pages: &[u8])
     ensures { after result [] text.now lines.now pages.now ≡ call (plain closes) file (book text.now lines.now pages.now end) }
 {
     let start = entry::start(file, end);
-    let number = entry::number_before(start, text, lines, pages);
-    if number != 0 {
-        return entry::refuse(start, number);
+    if let Err(refusal) = entry::test_book(start, text, lines, pages) {
+        return entry::refuse(start, refusal);
     }
     let mut closed = file;
     closed.opened = false;
@@ -116,9 +111,8 @@ pub fn choose(
     ensures { after result [] text.now lines.now pages.now ≡ call (plain (chooses split)) file (book text.now lines.now pages.now end) }
 {
     let start = entry::start(file, end);
-    let number = entry::number_before(start, text, lines, pages);
-    if number != 0 {
-        return entry::refuse(start, number);
+    if let Err(refusal) = entry::test_book(start, text, lines, pages) {
+        return entry::refuse(start, refusal);
     }
     let mut chosen = file;
     chosen.split = split;
@@ -130,12 +124,10 @@ pub fn reset(file: File, end: Position, text: &[u8], lines: &[u8], pages: &[u8])
     ensures { after result [] text.now lines.now pages.now ≡ call (plain resets) file (book text.now lines.now pages.now end) }
 {
     let start = entry::start(file, end);
-    let number = entry::number_before(start, text, lines, pages);
-    if number != 0 {
-        return entry::refuse(start, number);
+    if let Err(refusal) = entry::test_book(start, text, lines, pages) {
+        return entry::refuse(start, refusal);
     }
-    let o = running::reset(start);
-    entry::ended(o)
+    entry::ended(running::reset(start))
 }
 
 // Backspaces: one character back on the line.
@@ -143,10 +135,8 @@ pub fn backspace(file: File, end: Position, text: &[u8], lines: &[u8], pages: &[
     ensures { after result [] text.now lines.now pages.now ≡ call (plain backspaces) file (book text.now lines.now pages.now end) }
 {
     let start = entry::start(file, end);
-    let number = entry::number_before(start, text, lines, pages);
-    if number != 0 {
-        return entry::refuse(start, number);
+    if let Err(refusal) = entry::test_book(start, text, lines, pages) {
+        return entry::refuse(start, refusal);
     }
-    let o = running::backspace(start);
-    entry::ended(o)
+    entry::ended(running::backspace(start))
 }

@@ -20,12 +20,10 @@ pub fn put_character(
     ensures { after result [] text.new lines.new pages.new ≡ call (asking (puts_character b) row.now) file (book text.old lines.old pages.old end) }
 {
     let start = entry::start(file, end);
-    let o = begins::prepared(start, false, text, lines, pages, row);
-    if !running::goes_on(o) {
-        return entry::ended(o);
+    match begins::prepared(start, false, text, lines, pages, row) {
+        Ok(on) => entry::ended(lines::put_character(on, b, text, lines, pages, row)),
+        Err(ended) => entry::ended(Err(ended)),
     }
-    let put = lines::put_character(o.run, b, text, lines, pages, row);
-    entry::ended(put)
 }
 
 // Puts the characters of a string in turn.
@@ -41,12 +39,10 @@ pub fn put_string(
     ensures { after result [] text.new lines.new pages.new ≡ call (asking (puts_string bytes.now) row.now) file (book text.old lines.old pages.old end) }
 {
     let start = entry::start(file, end);
-    let o = begins::prepared(start, false, text, lines, pages, row);
-    if !running::goes_on(o) {
-        return entry::ended(o);
+    match begins::prepared(start, false, text, lines, pages, row) {
+        Ok(on) => entry::ended(strings::put_string(on, bytes, text, lines, pages, row)),
+        Err(ended) => entry::ended(Err(ended)),
     }
-    let put = strings::put_string(o.run, bytes, text, lines, pages, row);
-    entry::ended(put)
 }
 
 // Puts an integer: a blank where the line has begun, then whole(v, 11).
@@ -63,13 +59,10 @@ pub fn put_integer(
 {
     let start = entry::start(file, end);
     if v == -2147483648 {
-        let refused = begins::lowest(start, text, lines, pages, row);
-        return entry::ended(refused);
+        return entry::ended(begins::lowest(start, text, lines, pages, row));
     }
-    let o = begins::prepared(start, false, text, lines, pages, row);
-    if !running::goes_on(o) {
-        return entry::ended(o);
+    match begins::prepared(start, false, text, lines, pages, row) {
+        Ok(on) => entry::ended(integers::put_integer(on, v, text, lines, pages, row)),
+        Err(ended) => entry::ended(Err(ended)),
     }
-    let put = integers::put_integer(o.run, v, text, lines, pages, row);
-    entry::ended(put)
 }

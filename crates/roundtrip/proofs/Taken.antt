@@ -9,7 +9,7 @@ use lib.ListN.{length, get_or, drop, replicate, length-append, length-replicate}
 use lib.Seq.{get_or-drop, drop-drop, drop-append_seam}
 use lib.IntN.{ℤ, pos, negsuc, nat_abs}
 use borrow.Author.Tests.{le-ltb, leb-true}
-use Rattle.rules.specs.Book.{place, before, within, character_index, State, on_run, here, end_of, shape_of, line_here, moved_to, signalled_by, next_word, kind_of}
+use Rattle.rules.specs.Book.{place, before, within, character_index, State, on_run, here, end_of, shape_of, line_here, moved_to, signalled_by, next_word, kind_of, is_false, answer_of}
 use Rattle.rules.specs.Step.{Out, done, ends, pure, stopped, done_by, file_ended, page_ended, line_ended}
 use Rattle.rules.specs.Steps.{Action, good_file, good_page, good_line, at_line_end, pass_blanks, more_digits, digit, rank, execute}
 use Rattle.rules.specs.Ready.{InBounds, Valid, Ready}
@@ -60,9 +60,9 @@ pub record DoneWith {A : Type 0} (a : A) (t : List ℕ) (x : Out A) : Type 0 whe
   pub is : x ≡ done a left t
 
 -- with no answers lent, an event is answered 0
-asked : (s : State) → Asked [] s 0 0 (signalled_by [] s.run)
-unfolding next_word kind_of
-asked s = record { word = refl; kind = refl; next = refl }
+asked : (s : State) → Asked [] s is_false (signalled_by [] s.run)
+unfolding next_word kind_of answer_of
+asked s = record { answer = refl; next = refl }
 
 digit_not_blank : (b : ℕ) → digit b ≡ true → b ≡ 32 → ⊥
 unfolding digit within

@@ -85,7 +85,7 @@ module _ (v : ℤ) (f : File) (b : Book) (h : nat_abs v ≤ 2147483647) (m : May
       room_there (fits_at (length text) writing refl w.first room_there) refl)
 
   text_put : put_text [] text writing b.text ≡ done tt finally written
-  text_put = sym (text_here [] text writing b.text (ready (room_for (length text))) (whole-printable v (pos 11)) (omega (arith, eleven v)) room_done w.first refl refl refl)
+  text_put = sym (text_here [] text writing b.text (ready (room_for (length text))) (whole-printable v (pos 11)) (omega (arith, eleven v)) room_done w.first refl refl)
 
   put_worked : work (asking (puts_integer v) []) (enter f b) b.text ≡ done nothing finally written
   unfolding work asking_work putting_integer pure

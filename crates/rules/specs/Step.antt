@@ -1,15 +1,25 @@
 -- What a step is, how steps follow each other, and the steps that signal no event. Sentences of document 01 stand in quotation
 -- marks. Assumes nothing: these are definitions.
-use Rattle.std.specs.Prelude.{ℕ, zero, suc, ◌+◌, ◌-◌, Bool, true, false, not, ◌&&◌, List, ◌++◌, length, get_or, set, take, replicate, ltb, eqb}
+use Rattle.std.specs.Prelude.{ℕ, zero, suc, ◌+◌, ◌-◌, Bool, true, false, not, ◌&&◌, List, ◌++◌, length, get_or, set, take, replicate, ltb, eqb, Result, Ok, Err}
 use Rattle.rules.specs.declared.Position.{Position}
 use Rattle.rules.specs.declared.Shape.{Shape}
 use Rattle.rules.specs.declared.Rights.{Rights}
 use Rattle.rules.specs.declared.Run.{Run}
 use Rattle.rules.specs.declared.Event as code
-use Rattle.rules.specs.declared.Event.TheVariants.{None, LogicalEnd, PhysicalEnd, PageEnd, LineEnd, Character, Value}
-use Rattle.rules.specs.declared.Status.{Status}
-use Rattle.rules.specs.declared.Outcome.{Outcome}
-use Rattle.rules.specs.Book.{choose, place, before, next_character, previous_character, next_line, next_page, Lengths, lengths, page_length, line_index, line_length, character_index, State, state, on_run, with_lengths, here, end_of, shape_of, rights_of, page_here, line_here, with_file, with_end, moved_to, both_moved_to, in_mood, rewound, Event, logical_end, physical_end, page_end, line_end, character, value, next_word, signalled_by, Answer, answer_of}
+use Rattle.rules.specs.declared.Event.TheVariants.{LogicalEnd, PhysicalEnd, PageEnd, LineEnd, Character, Value}
+use Rattle.rules.specs.declared.Mending as code_mending
+use Rattle.rules.specs.declared.Mending.TheVariants.{Nothing, Newline, Newpage, SetTo, Backspace, Reset, Suggest}
+use Rattle.rules.specs.declared.Answer as code_answer
+use Rattle.rules.specs.declared.Answer.TheVariants.{Default, Jump, Mend}
+use Rattle.rules.specs.declared.Refusal.{Refusal}
+use Rattle.rules.specs.declared.Refusal.TheVariants.{NotOpen, BadAnswers, BadBook, RightMissing, MoodMissing, OutOfRange, BadCharacter, TooLarge, LineTooShort, ProgramJumped, OutputTooShort, LogicalEndMet, PhysicalEndMet, StringDoesNotFit}
+use Rattle.rules.specs.declared.Stop.{Stop}
+use Rattle.rules.specs.declared.Stop.TheVariants.{Terminator, LineOver, EndReached, OutputFull}
+use Rattle.rules.specs.declared.Ending as code_ending
+use Rattle.rules.specs.declared.Ending.TheVariants.{Refused, RefusedAt, Stopped}
+use Rattle.rules.specs.declared.EndedCall.{EndedCall}
+use Rattle.rules.specs.declared.Taken.{Taken}
+use Rattle.rules.specs.Book.{choose, place, before, next_character, previous_character, next_line, next_page, Lengths, lengths, page_length, line_index, line_length, character_index, State, state, on_run, with_lengths, here, end_of, shape_of, rights_of, page_here, line_here, with_file, with_end, moved_to, both_moved_to, in_mood, rewound, Event, logical_end, physical_end, page_end, line_end, character, value, next_word, signalled_by, Mending, Answer, is_false, jump, is_true, answer_of}
 
 infixl 20 ◌>>=◌
 infixl 20 ◌>>◌
@@ -253,12 +263,8 @@ end_page = do
 
 -- ---- the code's outcome of a step, as an outcome
 
-abbrev pub going : Status → Bool
-going e = choose (eqb e.number 0) (eqb e.stop 0) false
-
 -- what an event of the code tells, with the record left at x
 abbrev pub told_by : code.Event → Position → Told
-told_by None x = none
 told_by LogicalEnd x = signalled logical_end x
 told_by PhysicalEnd x = signalled physical_end x
 told_by PageEnd x = signalled page_end x
@@ -268,7 +274,6 @@ told_by Value x = signalled value x
 
 -- the number of each
 abbrev pub event_number : code.Event → ℕ
-event_number None = 0
 event_number LogicalEnd = 1
 event_number PhysicalEnd = 2
 event_number PageEnd = 3
@@ -285,39 +290,82 @@ event_as line_end = LineEnd
 event_as character = Character
 event_as value = Value
 
--- what a status means, with the record left at x
-abbrev pub ending_as : Status → Position → Ending
-ending_as e x = record { number = e.number; stop = e.stop; told = told_by e.event x }
+-- each answer as the code has it
+abbrev pub mending_as : code_mending.Mending → Mending
+mending_as Nothing = Mending.nothing
+mending_as Newline = Mending.newline
+mending_as Newpage = Mending.newpage
+mending_as (SetTo x) = Mending.set_to x
+mending_as Backspace = Mending.backspace
+mending_as Reset = Mending.reset
+mending_as (Suggest c) = Mending.suggest c
 
-abbrev pub ending_by : Outcome → Ending
-ending_by o = ending_as o.status o.run.file.position
+abbrev pub answer_as : code_answer.Answer → Answer
+answer_as Default = is_false
+answer_as Jump = jump
+answer_as (Mend m) = is_true (mending_as m)
+
+-- the number of each refusal of the code
+abbrev pub refusal_number : Refusal → ℕ
+refusal_number NotOpen = 1
+refusal_number BadAnswers = 2
+refusal_number BadBook = 3
+refusal_number RightMissing = 4
+refusal_number MoodMissing = 5
+refusal_number OutOfRange = 6
+refusal_number BadCharacter = 8
+refusal_number TooLarge = 9
+refusal_number LineTooShort = 10
+refusal_number ProgramJumped = 11
+refusal_number OutputTooShort = 12
+refusal_number LogicalEndMet = 14
+refusal_number PhysicalEndMet = 15
+refusal_number StringDoesNotFit = 16
+
+-- the number of each stop of the code
+abbrev pub stop_number : Stop → ℕ
+stop_number Terminator = 1
+stop_number LineOver = 2
+stop_number EndReached = 3
+stop_number OutputFull = 4
+
+-- what an ending of the code means, with the record left at x
+abbrev pub ending_as : code_ending.Ending → Position → Ending
+ending_as (Refused r) x = refusal (refusal_number r)
+ending_as (RefusedAt event r) x = record { number = refusal_number r; stop = 0; told = told_by event x }
+ending_as (Stopped s) x = stopped (stop_number s)
+
+-- what the code gives, or an ending
+abbrev pub OrEnding : Type 0 → Type 0
+OrEnding A = Result A code_ending.Ending
+
+abbrev pub ended_by : EndedCall → Ending
+ended_by e = ending_as e.ending e.run.file.position
 
 -- of a step that gives a value
-abbrev pub outcome_giving : {A : Type 0} → A → Outcome → List ℕ → List ℕ → List ℕ → Out A
-outcome_giving a o t l p = choose (going o.status) (done a (state o.run l p) t) (ends (ending_by o) (state o.run l p) t)
+abbrev pub outcome_giving : {A : Type 0} → Result (Taken A) EndedCall → List ℕ → List ℕ → List ℕ → Out A
+outcome_giving (Ok d) t l p = done d.value (state d.run l p) t
+outcome_giving (Err e) t l p = ends (ended_by e) (state e.run l p) t
+
+abbrev pub Outcome : Type 0
+Outcome = Result Run EndedCall
 
 abbrev pub outcome : Outcome → List ℕ → List ℕ → List ℕ → Out Unit
-outcome o t l p = outcome_giving tt o t l p
+outcome (Ok r) t l p = done tt (state r l p) t
+outcome (Err e) t l p = ends (ended_by e) (state e.run l p) t
 
-abbrev pub status_of : ℕ → ℕ → code.Event → Status
-status_of number stop event = record { number = number; stop = stop; event = event }
-
-abbrev pub outcome_with : Run → Status → Outcome
-outcome_with r e = record { run = r; status = e }
+abbrev pub ended_with : Run → code_ending.Ending → EndedCall
+ended_with r e = record { run = r; ending = e }
 
 abbrev pub done_by : Run → Outcome
-done_by r = outcome_with r (status_of 0 0 None)
+done_by r = Ok r
 
-abbrev pub refused_by : Run → ℕ → Outcome
-refused_by r n = outcome_with r (status_of n 0 None)
+abbrev pub refused_by : Run → Refusal → EndedCall
+refused_by r n = ended_with r (Refused n)
 
 -- right after an event
-abbrev pub refused_at : Run → code.Event → ℕ → Outcome
-refused_at r event n = outcome_with r (status_of n 0 event)
+abbrev pub refused_at : Run → code.Event → Refusal → EndedCall
+refused_at r event n = ended_with r (RefusedAt event n)
 
-abbrev pub stopped_by : Run → ℕ → Outcome
-stopped_by r n = outcome_with r (status_of 0 n None)
-
--- the status that a call hands back for the outcome of its last step: of a step that is done nothing more is told
-abbrev pub status_by : Outcome → Status
-status_by o = choose (going o.status) (status_of 0 0 None) o.status
+abbrev pub stopped_by : Run → Stop → EndedCall
+stopped_by r s = ended_with r (Stopped s)

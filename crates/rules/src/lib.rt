@@ -2,9 +2,12 @@
 // The table of its examples stands in proofs/.
 #![tactic(auto)]
 
+ghost use Rattle.std.specs.Prelude.{◌≡◌};
+ghost use Rattle.rules.specs.Step.{refusal_number, stop_number};
+
 // A position: page, line and character, each counted from 1.
 #[repr(C)]
-#[derive(Clone, Copy)]
+#[derive(Clone, Copy, PartialEq, Eq, PartialOrd, Ord)]
 pub struct Position {
     pub page: usize,
     pub line: usize,
@@ -55,10 +58,9 @@ pub struct Run {
     pub taken: usize,
 }
 
-// The six events, and none of them. `event_number` and `told_by` of specs/ tell the number and the name of each case.
+// The six events. `event_number` and `told_by` of specs/ tell the number and the name of each case.
 #[derive(Clone, Copy)]
 pub enum Event {
-    None,
     LogicalEnd,
     PhysicalEnd,
     PageEnd,
@@ -67,32 +69,108 @@ pub enum Event {
     Value,
 }
 
-// How a step ended. Number 0 and stop 0: it is done, and the call goes on. Otherwise the number of a refusal, or the
-// stop of a string; and the event that a refusal ended in, which was signalled at the position where the record is left.
+// What a true answer does. `mending_as` of specs/ tells the case of document 01.
 #[derive(Clone, Copy)]
-pub struct Status {
-    pub number: u8,
-    pub stop: u8,
-    pub event: Event,
+pub enum Mending {
+    Nothing,
+    Newline,
+    Newpage,
+    SetTo(Position),
+    Backspace,
+    Reset,
+    Suggest(usize),
 }
 
-// The running call after a step, and how the step ended.
+// An answer: false, so that the default follows; the program jumped away; or true.
 #[derive(Clone, Copy)]
-pub struct Outcome {
+pub enum Answer {
+    Default,
+    Jump,
+    Mend(Mending),
+}
+
+// Why a call is refused, with the number that document 01 gives each case.
+#[derive(Clone, Copy)]
+pub enum Refusal {
+    NotOpen = 1,
+    BadAnswers = 2,
+    BadBook = 3,
+    RightMissing = 4,
+    MoodMissing = 5,
+    OutOfRange = 6,
+    BadCharacter = 8,
+    TooLarge = 9,
+    LineTooShort = 10,
+    ProgramJumped = 11,
+    OutputTooShort = 12,
+    LogicalEndMet = 14,
+    PhysicalEndMet = 15,
+    StringDoesNotFit = 16,
+}
+
+impl Refusal {
+    // Its number.
+    pub fn number(self) -> u8
+        ensures { result ≡ refusal_number self }
+    {
+        self as u8
+    }
+}
+
+// Why a string that is got stopped, with the number that document 01 gives each case.
+#[derive(Clone, Copy)]
+pub enum Stop {
+    Terminator = 1,
+    LineOver = 2,
+    EndReached = 3,
+    OutputFull = 4,
+}
+
+impl Stop {
+    // Its number.
+    pub fn number(self) -> u8
+        ensures { result ≡ stop_number self }
+    {
+        self as u8
+    }
+}
+
+// How a step ends the call: by a refusal, by one that an event ends in, or by the stop of a string.
+#[derive(Clone, Copy)]
+pub enum Ending {
+    Refused(Refusal),
+    RefusedAt(Event, Refusal),
+    Stopped(Stop),
+}
+
+// A call that a step ended: the running call as it is left, and how. The event of a refusal was signalled at the position where the record
+// is left.
+#[derive(Clone, Copy)]
+pub struct EndedCall {
     pub run: Run,
-    pub status: Status,
+    pub ending: Ending,
 }
 
-// What a call gives: a character, an integer, or nothing but its number and stop.
+// The running call after a step that is done, or the call that the step ended.
+pub type Outcome = Result<Run, EndedCall>;
+
+// The running call after a step that gives a value, and the value.
+#[derive(Clone, Copy)]
+pub struct Taken<T> {
+    pub run: Run,
+    pub value: T,
+}
+
+// What a call that is done gives: a character, an integer, or nothing.
 #[derive(Clone, Copy)]
 pub enum Given {
-    Nothing(Status),
+    Nothing,
     Character(u8),
     Integer(i32),
 }
 
 // All that a call hands back by value: the record, the logical end, the events signalled, the answers taken, the count
-// of characters delivered, and what is given.
+// of characters delivered, and what is given, or how the call ended.
 #[derive(Clone, Copy)]
 pub struct Reply {
     pub file: File,
@@ -100,5 +178,5 @@ pub struct Reply {
     pub events: usize,
     pub taken: usize,
     pub count: usize,
-    pub given: Given,
+    pub given: Result<Given, Ending>,
 }

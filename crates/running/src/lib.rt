@@ -2,12 +2,12 @@
 #![tactic(auto)]
 
 ghost use Rattle.std.specs.Prelude.{◌≡◌, ◌&&◌, ◌<◌, ◌^◌};
-ghost use Rattle.rules.specs.Book.{place, moved_to, both_moved_to, in_mood, next_word, signalled_by, kind_of, page_of, line_of, character_of, place_of, mending_of, suggested};
-ghost use Rattle.rules.specs.Step.{going, event_as, done_by, refused_by, refused_at, stopped_by, status_by};
+ghost use Rattle.rules.specs.Book.{place, moved_to, both_moved_to, in_mood, next_word, signalled_by, kind_of, page_of, line_of, character_of, place_of, mending_of, answer_of, suggested};
+ghost use Rattle.rules.specs.Step.{event_as, mending_as, answer_as, refusal_number, refused_by, refused_at, stopped_by};
 ghost use Rattle.rules.specs.Steps.{file_end, file_end_number};
 ghost use Rattle.running.specs.Outcomes.{backspaced_by, reset_by};
 
-use rules::{Event, Outcome, Position, Run, Status};
+use rules::{Answer, EndedCall, Ending, Event, Mending, Outcome, Position, Refusal, Run, Stop};
 
 // The running call with its position moved.
 pub fn moved(run: Run, page: usize, line: usize, character: usize) -> Run
@@ -45,67 +45,35 @@ pub fn in_mood(run: Run, reading: bool) -> Run
     r
 }
 
-// A step that is done.
-pub fn finish(run: Run) -> Outcome
-    ensures { result ≡ done_by run }
+// A call that is refused.
+pub fn refused(run: Run, refusal: Refusal) -> EndedCall
+    ensures { result ≡ refused_by run refusal }
 {
-    Outcome {
-        run: run,
-        status: Status {
-            number: 0,
-            stop: 0,
-            event: Event::None,
-        },
-    }
-}
-
-// A step that ends in a refusal.
-pub fn refused(run: Run, number: u8) -> Outcome
-    ensures { result ≡ refused_by run number }
-{
-    Outcome {
-        run: run,
-        status: Status {
-            number: number,
-            stop: 0,
-            event: Event::None,
-        },
-    }
+    let ending = Ending::Refused(refusal);
+    EndedCall { run, ending }
 }
 
 // The same right after an event, which the refusal ends in.
-pub fn refused_at(run: Run, event: Event, number: u8) -> Outcome
-    ensures { result ≡ refused_at run event number }
+pub fn refused_at(run: Run, event: Event, refusal: Refusal) -> EndedCall
+    ensures { result ≡ refused_at run event refusal }
 {
-    Outcome {
-        run: run,
-        status: Status {
-            number: number,
-            stop: 0,
-            event: event,
-        },
-    }
+    let ending = Ending::RefusedAt(event, refusal);
+    EndedCall { run, ending }
 }
 
-// A step that ends in the stop of a string.
-pub fn stopped(run: Run, stop: u8) -> Outcome
+// A string that is stopped.
+pub fn stopped(run: Run, stop: Stop) -> EndedCall
     ensures { result ≡ stopped_by run stop }
 {
-    Outcome {
-        run: run,
-        status: Status {
-            number: 0,
-            stop: stop,
-            event: Event::None,
-        },
-    }
+    let ending = Ending::Stopped(stop);
+    EndedCall { run, ending }
 }
 
 // Whether a step belongs to a string that is got: its ends are stops.
 pub fn stops(reading: bool, string: bool) -> bool
     ensures { result ≡ (reading && string) }
 {
-    if reading { string } else { false }
+    reading && string
 }
 
 // The event that good file signals.
@@ -119,37 +87,15 @@ pub fn file_end(reading: bool) -> Event
     }
 }
 
-// The number of its refusal: 14 at the logical end, 15 at the physical end.
-pub fn file_end_number(reading: bool) -> u8
-    ensures { result ≡ file_end_number reading }
+// Its refusal: 14 at the logical end, 15 at the physical end.
+pub fn file_end_refusal(reading: bool) -> Refusal
+    ensures { refusal_number result ≡ file_end_number reading }
 {
-    if reading { 14 } else { 15 }
-}
-
-// Whether a step is done, and has not ended the call.
-pub fn goes_on(o: Outcome) -> bool
-    ensures { result ≡ going o.status }
-{
-    if o.status.number == 0 {
-        o.status.stop == 0
+    if reading {
+        Refusal::LogicalEndMet
     } else {
-        false
+        Refusal::PhysicalEndMet
     }
-}
-
-// The status that a call hands back for the outcome of its last step: of a step that is done nothing more is told.
-pub fn status_by(o: Outcome) -> Status
-    ensures { result ≡ status_by o }
-{
-    if goes_on(o) {
-        return Status {
-            number: 0,
-            stop: 0,
-            event: Event::None,
-        };
-    }
-    let status = o.status;
-    status
 }
 
 // The next answer word, or 0 past the row's end.
@@ -214,15 +160,57 @@ pub fn place_of(word: u32) -> Position
     }
 }
 
-// The character that a true answer leaves to an event which suggested b; refusal 2 keeps kind 7 at 255 at most.
-pub fn suggestion(word: u32, b: u8) -> u8
-    requires { suggested (mending_of word) b < 256 }
-    ensures { result ≡ suggested (mending_of word) b }
+// What a true answer does. The last arm of a `match` over numbers would not tell the proof which numbers are left.
+pub fn mending_of(word: u32) -> Mending
+    ensures { mending_as result ≡ mending_of word }
 {
-    if kind_of(word) == 7 {
-        character_of(word) as u8
+    let kind = kind_of(word);
+    if kind == 2 {
+        Mending::Newline
+    } else if kind == 3 {
+        Mending::Newpage
+    } else if kind == 4 {
+        Mending::SetTo(place_of(word))
+    } else if kind == 5 {
+        Mending::Backspace
+    } else if kind == 6 {
+        Mending::Reset
+    } else if kind == 7 {
+        Mending::Suggest(character_of(word) as usize)
     } else {
-        b
+        Mending::Nothing
+    }
+}
+
+// What an answer word says.
+pub fn answer_of(word: u32) -> Answer
+    ensures { answer_as result ≡ answer_of word }
+{
+    let kind = kind_of(word);
+    if kind == 0 {
+        Answer::Default
+    } else if kind == 8 {
+        Answer::Jump
+    } else {
+        Answer::Mend(mending_of(word))
+    }
+}
+
+// The next answer.
+pub fn next_answer(run: Run, row: &[u32]) -> Answer
+    ensures { answer_as result ≡ answer_of (next_word row.now run) }
+{
+    answer_of(next_word(run, row))
+}
+
+// The character that a true answer leaves to an event which suggested b; refusal 2 keeps kind 7 at 255 at most.
+pub fn suggestion(mending: Mending, b: u8) -> u8
+    requires { suggested (mending_as mending) b < 256 }
+    ensures { result ≡ suggested (mending_as mending) b }
+{
+    match mending {
+        Mending::Suggest(character) => character as u8,
+        _ => b,
     }
 }
 
@@ -230,16 +218,11 @@ pub fn suggestion(word: u32, b: u8) -> u8
 pub fn backspace(run: Run) -> Outcome
     ensures { result ≡ backspaced_by run }
 {
-    let character = run.file.position.character;
-    if 1 < character {
-        finish(moved(
-            run,
-            run.file.position.page,
-            run.file.position.line,
-            character - 1,
-        ))
+    let position = run.file.position;
+    if 1 < position.character {
+        Ok(moved(run, position.page, position.line, position.character - 1))
     } else {
-        refused(run, 6)
+        Err(refused(run, Refusal::OutOfRange))
     }
 }
 
@@ -253,8 +236,8 @@ pub fn reset(run: Run) -> Outcome
         let writing = !run.file.rights.get;
         r.file.reading = reading;
         r.file.writing = writing;
-        finish(r)
+        Ok(r)
     } else {
-        refused(run, 4)
+        Err(refused(run, Refusal::RightMissing))
     }
 }

@@ -2,177 +2,114 @@
 // `G` newpage.
 #![tactic(auto)]
 
-use rules::{File, Position, Reply};
+use feed::{Line, Lines};
+use rules::{Refusal, Reply};
+use scenes::{Lent, Side};
+use shows::Place;
 use std::io;
 use std::io::{Read, Write};
 
-// Whether a line is "S ", and what follows.
-fn is_text(line: &[u8]) -> bool {
-    if line.len() < 2 {
-        return false;
-    }
-    if line[0] == 83 { line[1] == 32 } else { false }
-}
+// Much more than a put of a text has room for; and more than the whole book takes when it is shown.
+const LINE: usize = 4096;
+
+const OUTPUT: usize = 4096;
 
 // One line of the input.
-fn play(
-    line: &[u8],
-    file: File,
-    end: Position,
-    text: &mut [u8],
-    lines: &mut [u8],
-    pages: &mut [u8],
-    row: &[u32],
-) -> Reply {
-    if is_text(line) {
-        let from = console::least(2, line.len());
-        return puts::put_string(file, end, &line[from..line.len()], text, lines, pages, row);
+fn play(line: &[u8], lent: Lent) -> Reply {
+    let Lent {
+        file,
+        end,
+        text,
+        lines,
+        pages,
+        row,
+    } = lent;
+    match line {
+        [b'S', b' ', put @ ..] => puts::put_string(file, end, put, text, lines, pages, row),
+        b"N" => layout::newline(file, end, text, lines, pages, row),
+        b"G" => layout::newpage(file, end, text, lines, pages, row),
+        _ => entry::refuse(entry::start(file, end), Refusal::OutOfRange),
     }
-    if console::same(line, b"N") {
-        return layout::newline(file, end, text, lines, pages, row);
-    }
-    if console::same(line, b"G") {
-        return layout::newpage(file, end, text, lines, pages, row);
-    }
-    entry::refuse(entry::start(file, end), 6)
 }
 
 // Says that a call was refused, and its number.
-fn write_refused<W: Write>(writer: &mut W, number: u8) -> io::Result<()> {
-    if number != 0 {
-        writer.write_all(b"refused ")?;
-        console::write_decimal(writer, number as u64)?;
-        writer.write_all(b"\n")?;
+fn write_refused<W: Write>(writer: &mut W, refusal: Refusal) -> io::Result<()> {
+    let number = refusal.number();
+    let mut output = io::Cursor::new([0; OUTPUT]);
+    writeln!(output, "refused {number}")?;
+    writer.write_all(console::written(&output))
+}
+
+// Shows a line, if it is shown: page, line, how many characters, and the characters or a marker.
+fn write_line<W: Write>(writer: &mut W, side: &Side, page: usize, line: usize) -> io::Result<()> {
+    let Ok(stored) = side.view(page, line, b"") else {
+        return Ok(());
+    };
+    let count = stored.len();
+    write!(writer, "{page} {line} {count} ")?;
+    writer.write_all(if stored.is_empty() {
+        b"(blank)"
+    } else {
+        stored
+    })?;
+    writeln!(writer)
+}
+
+// Shows the shown lines of a page.
+fn write_page<W: Write>(writer: &mut W, side: &Side, page: usize) -> io::Result<()> {
+    for line in 1..=side.file.shape.lines {
+        write_line(writer, side, page, line)?;
     }
     Ok(())
 }
 
-// Three numbers and a blank after each.
-fn write_numbers<W: Write>(writer: &mut W, a: usize, b: usize, c: usize) -> io::Result<()> {
-    console::write_decimal(writer, a as u64)?;
-    writer.write_all(b" ")?;
-    console::write_decimal(writer, b as u64)?;
-    writer.write_all(b" ")?;
-    console::write_decimal(writer, c as u64)
-}
-
-// Shows a line, if it is shown: page, line, how many characters, and the characters or the marker.
-fn write_line<'a, W: Write>(
-    writer: &mut W,
-    page: usize,
-    line: usize,
-    file: File,
-    end: Position,
-    text: &'a [u8],
-    lines: &[u8],
-    pages: &[u8],
-    marker: &'a [u8],
-) -> io::Result<()> {
-    let asked = views::view_number(file, end, page, line, text, lines, pages);
-    let given = asked.given;
-    if shows::number_of(given) != 0 {
-        return Ok(());
-    }
-    let stored = views::line_view(file, end, page, line, text, lines, pages, &text[0..0]);
-    let part = views::line_view(file, end, page, line, text, lines, pages, marker);
-    write_numbers(writer, page, line, stored.len())?;
-    writer.write_all(b" ")?;
-    writer.write_all(part)?;
-    writer.write_all(b"\n")
-}
-
 // Shows every shown line, and the logical end.
-fn write_book<'a, W: Write>(
-    writer: &mut W,
-    file: File,
-    end: Position,
-    text: &'a [u8],
-    lines: &[u8],
-    pages: &[u8],
-    marker: &'a [u8],
-) -> io::Result<()> {
-    for i in 0..6usize {
-        write_line(
-            writer,
-            i / 3 + 1,
-            i % 3 + 1,
-            file,
-            end,
-            text,
-            lines,
-            pages,
-            marker,
-        )?;
+fn write_book<W: Write>(writer: &mut W, side: &Side) -> io::Result<()> {
+    let mut output = io::Cursor::new([0; OUTPUT]);
+    for page in 1..=side.file.shape.pages {
+        write_page(&mut output, side, page)?;
     }
-    writer.write_all(b"end ")?;
-    write_numbers(writer, end.page, end.line, end.character)?;
-    writer.write_all(b"\n")
+    let end = Place(side.end);
+    writeln!(output, "end {end}")?;
+    writer.write_all(console::written(&output))
+}
+
+// Leaves the record and the logical end as a call did.
+fn leave(side: &mut Side, reply: Reply) {
+    side.file = reply.file;
+    side.end = reply.end;
 }
 
 // Plays the whole input. A longer line than the buffer is cut: its put is refused before the cut. The loop takes a number of turns
 // that no input uses up.
-fn play_all<R: Read, W: Write>(
-    source: &mut R,
-    writer: &mut W,
-    first: Reply,
-    chunk: &mut [u8],
-    line: &mut [u8],
-    text: &mut [u8],
-    lines: &mut [u8],
-    pages: &mut [u8],
-    row: &[u32],
-) -> io::Result<Reply> {
-    let mut last = first;
-    let mut at = feed::unread();
+fn play_all<R: Read, W: Write>(source: &mut R, writer: &mut W, side: &mut Side) -> io::Result<()> {
+    let mut lines: Lines<'_, R, LINE> = Lines::new(source);
     for _ in 0..u64::MAX {
-        let read = feed::next_line(source, chunk, at, line)?;
-        at = read.feed;
-        if !read.there {
-            return Ok(last);
+        let Some(Line::Whole(line) | Line::Start(line)) = lines.next_line()? else {
+            return Ok(());
+        };
+        let reply = play(line, side.lent(&[]));
+        leave(side, reply);
+        if let Some(refusal) = shows::refusal_of(reply.given) {
+            write_refused(writer, refusal)?;
         }
-        let count = console::least(read.count, line.len());
-        let file = last.file;
-        let end = last.end;
-        last = play(&line[0..count], file, end, text, lines, pages, row);
-        let given = last.given;
-        write_refused(writer, shows::number_of(given))?;
     }
-    Ok(last)
+    Ok(())
 }
 
 fn main(rt: HostRuntime) -> io::Result<()> {
-    let mut input = rt.stdin();
     let mut writer = rt.stdout();
-    let mut chunk = [0u8; 65536];
-    let mut line = [0u8; 4096];
-    let mut text = [0u8; 48];
-    let mut lines = [0u8; 6];
-    let mut pages = [0u8; 2];
-    let row = [0u32; 0];
-    let side = scenes::first_side();
-    let file = side.file;
-    let end = side.end;
-    let first = plain::establish(file, end, &text, &mut lines, &mut pages);
-    let last = play_all(
-        &mut input,
-        &mut writer,
-        first,
-        &mut chunk,
-        &mut line,
-        &mut text,
-        &mut lines,
-        &mut pages,
-        &row,
-    )?;
-    let left = last.file;
-    let reached = last.end;
-    write_book(
-        &mut writer,
-        left,
-        reached,
-        &text,
-        &lines,
-        &pages,
-        b"(blank)",
-    )
+    let mut side = Side::new();
+    let Lent {
+        file,
+        end,
+        text,
+        lines,
+        pages,
+        ..
+    } = side.lent(&[]);
+    let established = plain::establish(file, end, text, lines, pages);
+    leave(&mut side, established);
+    play_all(&mut rt.stdin(), &mut writer, &mut side)?;
+    write_book(&mut writer, &side)
 }

@@ -1,27 +1,18 @@
--- The same byte stored from an index on. Assumes nothing.
-use Prim.Native.Nat.{ℕ, zero, suc, ◌+◌, ◌-◌, ◌≤◌, ◌<◌}
+-- Bytes stored from an index on, at once. Assumes nothing.
+use Prim.Native.Nat.{ℕ, zero, suc, ◌+◌, ◌-◌, ◌≤◌, ◌<◌, min}
 use native.Mathlib.Omega.{arith}
-use native.Mathlib.Numerals.{add-one, sub-one}
 use mathlib.Core.Path.{◌≡◌, refl, sym, ap, ◌∙◌}
 use mathlib.Core.List.{List, [], ◌∷◌}
-use lib.ListN.{length, set, replicate, length-set}
-use lib.Seq.{sets}
+use lib.ListN.{length, set, take, drop, replicate, length-set, length-replicate, length-drop}
+use Rattle.std.proofs.lemmas.List.{length-take}
+use lib.Seq.{sets, sets-eq}
+use Rattle.std.proofs.lemmas.Grind.{common_steps}
+use borrow.Rule.Slice.PartMut.{put_mid}
 use Rattle.rules.specs.Step.{blanks}
 
--- one turn of a loop that stores the same element
-pub fill_more : (n i b : ℕ) (l : List ℕ) → 0 < n → sets (set l i b) (i + 1) (replicate (n - 1) b) ≡ sets l i (replicate n b)
-fill_more zero i b l h = absurd (omega arith)
-fill_more (suc n) i b l h = rw (sub-one, add-one)
-
--- one turn of a loop that stores the same element, of n that are left
-pub fill_next : (n i b : ℕ) (l : List ℕ) {m : ℕ} → 0 < n → m ≡ n - 1 → sets (set l i b) (i + 1) (replicate m b) ≡ sets l i (replicate n b)
-fill_next zero i b l h e = absurd (omega arith)
-fill_next (suc n) i b l h e = rw (e, sub-one, add-one)
-
--- none is left, or the list has no place for them
-pub none_left : (n i b : ℕ) (l : List ℕ) {l' : List ℕ} → n ≤ 0 → sets l i (replicate n b) ≡ l' → l ≡ l'
-none_left zero i b l h e = e
-none_left (suc n) i b l h e = absurd (omega arith)
+-- a part that is written over
+pub put_sets : (a k : ℕ) (l ys : List ℕ) → a + k ≤ length l → length ys ≡ k → put_mid a k l ys ≡ sets l a ys
+put_sets a k l ys h e = grind (arith, common_steps, sets-eq)
 
 set_past : (l : List ℕ) (i b : ℕ) → length l ≤ i → set l i b ≡ l
 set_past [] i b h = refl
@@ -32,10 +23,22 @@ sets_past : (vs l : List ℕ) (i : ℕ) → length l ≤ i → sets l i vs ≡ l
 sets_past [] l i h = refl
 sets_past (v ∷ vs) l i h = sets_past vs (set l i v) (suc i) (simp length-set (omega arith)) ∙ set_past l i v h
 
-pub fill_past : (n i b : ℕ) (l : List ℕ) {l' : List ℕ} → length l ≤ i → sets l i (replicate n b) ≡ l' → l ≡ l'
-fill_past n i b l h e = sym (sets_past (replicate n b) l i h) ∙ e
+-- of the same byte n times, only those that have a place are stored
+fill_cut : (n i b : ℕ) (l : List ℕ) (k : ℕ) → k ≡ min (i + n) (length l) - i → sets l i (replicate n b) ≡ sets l i (replicate k b)
+fill_cut zero i b l k h = let e : k ≡ 0 = omega arith in rw e
+fill_cut (suc n) i b l zero h = sets_past (replicate (suc n) b) l i (omega arith)
+fill_cut (suc n) i b l (suc k) h = fill_cut n (suc i) b (set l i b) k (omega (arith, length-set l i b))
 
-pub fill_blanks : (n i : ℕ) (l : List ℕ) → sets l i (replicate n 32) ≡ blanks n i l
+pub fill_part : (i n b k : ℕ) (l ys : List ℕ) → k ≡ min (i + n) (length l) - i → 0 < k → ys ≡ replicate (length (take k (drop i l))) b → put_mid i k l ys ≡ sets l i (replicate n b)
+fill_part i n b k l ys h p e =
+    let m : length (take k (drop i l)) ≡ k = omega (arith, length-take k (drop i l), length-drop i l) in
+    let f : ys ≡ replicate k b = e ∙ ap (λ n. replicate n b) m in
+    put_sets i k l ys (omega arith) (ap length f ∙ length-replicate k b) ∙ ap (sets l i) f ∙ sym (fill_cut n i b l k h)
+
+pub fill_none : (i n b : ℕ) (l : List ℕ) → min (i + n) (length l) ≤ i → l ≡ sets l i (replicate n b)
+fill_none i n b l h = sym (fill_cut n i b l 0 (omega arith))
+
+pub fill_blanks : (n i : ℕ) (l : List ℕ) → blanks n i l ≡ sets l i (replicate n 32)
 unfolding blanks
 fill_blanks zero i l = refl
 fill_blanks (suc n) i l = fill_blanks n (suc i) (set l i 32)

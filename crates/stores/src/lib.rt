@@ -11,7 +11,7 @@ ghost use Rattle.places.specs.Small.{Small};
 
 use rules::{Position, Run, Shape};
 
-// Stores a byte, if its place is there.
+// Stores a byte, if its place is there. By `get_mut` no proof closes: its contract leaves open what the slice is afterwards.
 pub fn store_byte(bytes: &mut [u8], i: usize, b: u8)
     ensures { bytes.new ≡ set bytes.old i b }
 {
@@ -24,7 +24,7 @@ pub fn store_byte(bytes: &mut [u8], i: usize, b: u8)
 pub fn least(a: usize, b: usize) -> usize
     ensures { (result ≤ a) × (result ≤ b) × ((result ≡ a) ⊎ (result ≡ b)) }
 {
-    if a < b { a } else { b }
+    a.min(b)
 }
 
 // Some bytes that are all the same, from an index on, as far as the slice goes.
@@ -32,20 +32,19 @@ pub fn fill(bytes: &mut [u8], from: usize, count: usize, b: u8)
     requires { from + count < 2 ^ 33 }
     ensures { bytes.new ≡ sets bytes.old from (replicate count b) }
 {
-    let to = least(from + count, bytes.len());
-    let mut i = from;
-    while i < to {
-        bytes[i] = b;
-        i += 1;
+    let to = (from + count).min(bytes.len());
+    if from < to {
+        bytes[from..to].fill(b);
     }
 }
 
 // Writes some blanks from an index on, as far as the text goes.
+#[tactic(auto, using(crate::proofs::Fills::fill_blanks))]
 pub fn blank(text: &mut [u8], from: usize, count: usize)
     requires { (from < 2 ^ 32) × (count < 2 ^ 32) }
     ensures { text.new ≡ blanks count from text.old }
 {
-    fill(text, from, count, 32);
+    fill(text, from, count, b' ');
 }
 
 // Stores a length, if its place is there.
@@ -60,10 +59,11 @@ pub fn put_length(lengths: &mut [u8], i: usize, n: usize)
 pub fn minus(a: usize, b: usize) -> usize
     ensures { result ≡ a - b }
 {
-    if b < a { a - b } else { 0 }
+    a.saturating_sub(b)
 }
 
 // Blanks a line from a character on, to its own length.
+#[tactic(auto, unfolding(rules::specs::Step::blank_line))]
 pub fn blank_line(
     shape: Shape,
     text: &mut [u8],
@@ -79,8 +79,7 @@ pub fn blank_line(
 {
     let size = places::line_length(shape, lines, pages, page, line);
     let from = places::character_index(shape, page, line, character);
-    let rest = minus(size + 1, character);
-    blank(text, from, rest);
+    blank(text, from, (size + 1).saturating_sub(character));
 }
 
 // Blanks some lines of a page.
@@ -97,49 +96,44 @@ pub fn blank_lines(
     requires le_line { (1 ≤ line) × (line + count ≤ 257) }
     ensures { text.new ≡ blank_lines shape (lengths lines.now pages.now) count page line text.old }
 {
-    let mut left = count;
-    let mut l = line;
-    while 0 < left {
-        blank_line(shape, text, lines, pages, page, l, 1);
-        l += 1;
-        left -= 1;
+    for next in line..line + count {
+        blank_line(shape, text, lines, pages, page, next, 1);
     }
 }
 
 // Whether the logical end, which x is not beyond, goes back to x.
+#[tactic(auto, unfolding(rules::specs::Book::before))]
 pub fn goes_back(set: bool, end: Position, x: Position) -> bool
     ensures { result ≡ goes_back «set» end x }
 {
-    if set {
-        return false;
-    }
     let start = Position {
-        page: end.page,
-        line: end.line,
         character: 1,
+        ..end
     };
-    places::is_before(x, start)
+    !set && x < start
 }
 
 // The logical end after the position came to x.
+#[tactic(auto, unfolding(rules::specs::Book::before))]
 pub fn end_after(set: bool, end: Position, x: Position) -> Position
     ensures { result ≡ end_after «set» end x }
 {
-    if places::is_before(end, x) {
-        return x;
+    if end < x || goes_back(set, end, x) {
+        x
+    } else {
+        end
     }
-    if goes_back(set, end, x) { x } else { end }
 }
 
-// Makes every length from an index on the same.
+// Makes every length from an index on the same. It is seldom called, and what calls it stays small without its body.
+#[tactic(auto, unfolding(rules::specs::Step::all_from))]
+#[inline(never)]
 pub fn all_from(lengths: &mut [u8], from: usize, n: usize)
     requires { n ≤ 255 }
     ensures { lengths.new ≡ all_from from n lengths.old }
 {
-    let mut i = from;
-    while i < lengths.len() {
-        put_length(lengths, i, n);
-        i += 1;
+    if from < lengths.len() {
+        lengths[from..].fill(n as u8);
     }
 }
 
@@ -148,14 +142,11 @@ pub fn restore(run: Run, x: Position, lines: &mut [u8], pages: &mut [u8])
     requires { Small run.file.shape x.page x.line }
     ensures { lengths lines.new pages.new ≡ lengths_after run.file.shape run.file.rights run.end x (lengths lines.old pages.old) }
 {
-    if !run.file.rights.compress {
-        return;
-    }
     let end = run.end;
-    if places::is_before(end, x) {
-        return;
-    }
-    if !goes_back(run.file.rights.set, end, x) {
+    if !run.file.rights.compress
+        || places::is_before(end, x)
+        || !goes_back(run.file.rights.set, end, x)
+    {
         return;
     }
     let shape = run.file.shape;
@@ -164,28 +155,26 @@ pub fn restore(run: Run, x: Position, lines: &mut [u8], pages: &mut [u8])
     all_from(pages, x.page - 1, shape.lines);
 }
 
-// The running call, and the lengths, after some characters were stored on its line.
+// The running call, and the lengths, after some characters were stored on its line. It is part of each caller, so that no record is copied.
+#[inline(always)]
 pub fn stored(run: Run, count: usize, lines: &mut [u8], pages: &mut [u8]) -> Run
     requires small { Small run.file.shape run.file.position.page run.file.position.line }
     requires count_bound { run.file.position.character + count < 2 ^ 32 }
     ensures { state result lines.new pages.new ≡ stored_by count (state run lines.old pages.old) }
 {
-    let character = run.file.position.character + count;
     let x = Position {
-        page: run.file.position.page,
-        line: run.file.position.line,
-        character: character,
+        character: run.file.position.character + count,
+        ..run.file.position
     };
     restore(run, x, lines, pages);
-    let old = run.end;
-    let end = end_after(run.file.rights.set, old, x);
-    let mut r = run;
-    r.file.position.character = character;
-    r.end = end;
-    r
+    let mut next = run;
+    next.file.position = x;
+    next.end = end_after(run.file.rights.set, run.end, x);
+    next
 }
 
-// "Store it, c+1", and the logical end's rule.
+// "Store it, c+1", and the logical end's rule. It is part of each caller too.
+#[inline(always)]
 pub fn store_character(run: Run, text: &mut [u8], lines: &mut [u8], pages: &mut [u8], b: u8) -> Run
     requires small { Small run.file.shape run.file.position.page run.file.position.line }
     requires le_character { (1 ≤ run.file.position.character) × (run.file.position.character ≤ 256) }
@@ -202,16 +191,21 @@ pub fn store_character(run: Run, text: &mut [u8], lines: &mut [u8], pages: &mut 
     stored(run, 1, lines, pages)
 }
 
+// Writes some bytes into the text.
+#[tactic(auto, using(crate::proofs::Fills::put_sets, std::proofs::lemmas::Grind::common_steps))]
+pub fn store_bytes(text: &mut [u8], at: usize, bytes: &[u8])
+    requires { at + length bytes.now ≤ length text.old }
+    ensures { text.new ≡ sets text.old at bytes.now }
+{
+    text[at..at + bytes.len()].copy_from_slice(bytes);
+}
+
 // Writes a part of some bytes into the text.
 pub fn store_run(text: &mut [u8], at: usize, bytes: &[u8], from: usize, count: usize)
     requires { (at + count ≤ length text.old) × (from + count ≤ length bytes.now) }
     ensures { text.new ≡ sets text.old at (take count (drop from bytes.now)) }
 {
-    let mut i = 0;
-    while i < count {
-        text[at + i] = bytes[from + i];
-        i += 1;
-    }
+    store_bytes(text, at, &bytes[from..from + count]);
 }
 
 // The writing end of a line, with the position at the logical end.
@@ -258,7 +252,7 @@ pub fn end_page(run: Run, text: &mut [u8], lines: &mut [u8], pages: &mut [u8]) -
     }
     blank_line(shape, text, lines, pages, page, line, character);
     let size = places::page_length(pages, page);
-    let rest = minus(size, line);
+    let rest = size.saturating_sub(line);
     blank_lines(shape, text, lines, pages, rest, page, line + 1);
     running::both_moved(run, page + 1, 1, 1)
 }

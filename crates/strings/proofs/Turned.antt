@@ -1,23 +1,20 @@
 -- Parts of a string's put or get where the loop also turns to the next line: what goes on is nearer the end. Assumes nothing.
-use Prim.Native.Nat.{ℕ, zero, suc, ◌+◌, ◌*◌, ◌-◌, ◌≤◌, ◌<◌}
+use Prim.Native.Nat.{ℕ, ◌+◌, ◌*◌, ◌-◌, ◌≤◌, ◌<◌}
 use native.Mathlib.Omega.{arith}
-use mathlib.Core.Path.{◌≡◌, refl, sym, ap, subst, ◌∙◌}
-use mathlib.Core.List.{List, [], ◌∷◌}
+use mathlib.Core.Path.{◌≡◌, refl, sym, ap, ◌∙◌}
+use mathlib.Core.List.{List, []}
 use mathlib.Core.Bool.{Bool, true, false}
 use lib.ListN.{length, get_or, set, take, drop, length-take, length-drop}
 use lib.Seq.{sets, drop-set-lt, drop-drop}
 use Rattle.rules.specs.declared.Run.{Run}
-use Rattle.rules.specs.declared.Outcome.{Outcome}
-use Rattle.rules.specs.Book.{choose, character_index, State, state, on_run, here, end_of, shape_of, moved_to, next_line, signalled_by}
-use Rattle.rules.specs.Step.{ending_by, done, ends, going, outcome_giving, outcome, done_by, stopped, stopped_by, end_line}
+use Rattle.rules.specs.Book.{character_index, State, state, on_run, here, end_of, shape_of, moved_to, next_line, signalled_by}
+use Rattle.rules.specs.Step.{Ending, done, ends, end_line}
 use Rattle.rules.specs.Steps.{Action, good_line, at_line_end, put_character, pass_blanks, printable, spent, spent_by, measure, execute}
 use Rattle.rules.specs.Ready.{Ready}
 use Rattle.rules.specs.Calls.{a_string, put_characters, string_character, get_characters}
 use Rattle.laws.specs.Runs.{on_by, stored_by, every, ordinary}
-use Rattle.laws.proofs.Order.{split}
-use Rattle.laws.proofs.Validity.{Valid, line_length_le}
 use Rattle.laws.proofs.Progress.{site_lower, site_later, ready_on, gain_less, spent_le}
-use Rattle.laws.proofs.Ways.{gives, gives_none, reached, halted, post_done_of, done_of}
+use Rattle.laws.proofs.Ways.{post_done_of, done_of}
 use Rattle.laws.proofs.Runs.{any_character}
 use Rattle.laws.proofs.Puts.{left_ready, left_one, left_ends, left_run, one_left_ready}
 use Rattle.laws.proofs.Gets as gets
@@ -25,7 +22,7 @@ use Rattle.lines.proofs.Good.{good_facts}
 use Rattle.turns.specs.Turns.{turns_here}
 use Rattle.turns.proofs.Turning.{turns_facts, turn_reading, turn_writing, line_again, put_again, puts_again, gets_again}
 use Rattle.strings.specs.Parts.{Room, PutOn, GotOn}
-use Rattle.strings.proofs.Parts.{pick_true, pick_false, some_of, past_sets, Getting}
+use Rattle.strings.proofs.Parts.{some_of, past_sets, Getting}
 
 -- ---- what is nearer the end
 
@@ -51,25 +48,21 @@ module _ (row : List ℕ) (action : Action) (s : State) {n : ℕ} (m : 0 < n) wh
 -- ---- put
 
 module _ (row bytes : List ℕ) (i : ℕ) (s : State) (t : List ℕ) (rd : Ready row (put_character true 0) s) (h : i < length bytes) where
-  pub put_one : {b : ℕ} → b ≡ get_or bytes i 0 → (o : Outcome) (t' l' p' : List ℕ) → outcome o t' l' p' ≡ execute row (put_character true b) s t → PutOn row bytes i s t o 1 t' l' p'
-  put_one e o t' l' p' c = record {
-    same = split (going o.status)
-        (λ g. left_one row bytes true i s t rd h e (reached o c g) ∙ sym (pick_true _ _ g))
-        (λ g. left_ends row bytes true i s t rd h e (halted o c g) ∙ sym (pick_false _ _ g));
-    ready = λ g. one_left_ready row bytes true i s t rd h e (reached o c g);
-    less = λ g. one_less row bytes true i s t rd h e (reached o c g);
-    within = omega arith;
-  }
+  module _ {b : ℕ} (e : b ≡ get_or bytes i 0) where
+    pub put_ends : {x : Ending} {u : State} {t' : List ℕ} → execute row (put_character true b) s t ≡ ends x u t' → put_characters row true (drop i bytes) s t ≡ ends x u t'
+    put_ends f = left_ends row bytes true i s t rd h e f
+
+    pub put_one : {u : State} {t' : List ℕ} → execute row (put_character true b) s t ≡ done tt u t' → PutOn row bytes i s t 1 u t'
+    put_one f = record { same = left_one row bytes true i s t rd h e f; ready = one_left_ready row bytes true i s t rd h e f; less = one_less row bytes true i s t rd h e f; within = omega arith }
 
   pub put_more : {size room limit n : ℕ} → Room false s size room → limit ≤ room → limit ≤ length bytes - i → n ≤ limit → every printable (take n (drop i bytes)) ≡ true → (n ≡ 0 → ⊥)
-      → {at : ℕ} → at ≡ character_index (shape_of s) (here s) → {y : Run} {t' l' p' : List ℕ} {o : Outcome} → state y l' p' ≡ stored_by n s → t' ≡ sets t at (take n (drop i bytes)) → o ≡ done_by y → PutOn row bytes i s t o n t' l' p'
-  put_more {n = n} r a b k p z e {t' = t'} {l' = l'} {p' = p'} hy ht ho =
+      → {at : ℕ} → at ≡ character_index (shape_of s) (here s) → {u : State} {t' : List ℕ} → u ≡ stored_by n s → t' ≡ sets t at (take n (drop i bytes)) → PutOn row bytes i s t n u t'
+  put_more {n = n} r a b k p z e {t' = t'} hy ht =
       let m : 0 < n = some_of n z in
       let x = left_run row bytes true i s t rd m
       (record { there = omega (arith, b, k); good = good_facts false s (r.good (omega (arith, a, k, m))); room = omega (arith, r.line, a, k); plain = p })
       hy (ht ∙ ap (λ (j : ℕ). sets t j (take n (drop i bytes))) e) in
-      subst (λ (o : Outcome). PutOn row bytes i s t o n t' l' p') (sym ho)
-      (record { same = x.0; ready = λ _. x.1; less = λ _. stored_less row (put_character true 0) s m x.1 hy; within = omega (arith, b, k) })
+      record { same = x.0; ready = x.1; less = stored_less row (put_character true 0) s m x.1 hy; within = omega (arith, b, k) }
 
   -- a turn to the next line
   pub put_turn : turns_here row false s ≡ true → {v : Run} {t' l' p' : List ℕ} → done tt (state v l' p') t' ≡ end_line (on_run s (moved_to (signalled_by row s.run) (end_of s))) t
@@ -87,50 +80,30 @@ module _ (row bytes : List ℕ) (i : ℕ) (s : State) (t : List ℕ) (rd : Ready
         (site_later row (put_character true 0) s rd (put_character true 0) u d.valid d.took d.claim).1,
       )
 
--- the two ways on from a part
-module _ {row bytes : List ℕ} {i : ℕ} {s : State} {t : List ℕ} {o : Outcome} {n : ℕ} {t' l' p' : List ℕ} (x : PutOn row bytes i s t o n t' l' p') where
-  pub put_goes : going o.status ≡ true → put_characters row true (drop i bytes) s t ≡ put_characters row true (drop (i + n) bytes) (state o.run l' p') t'
-  put_goes g = x.same ∙ pick_true _ _ g
-
-  pub put_halts : going o.status ≡ false → put_characters row true (drop i bytes) s t ≡ ends (ending_by o) (state o.run l' p') t'
-  put_halts g = x.same ∙ pick_false _ _ g
-
 -- ---- get
 
 module _ (row terminators output : List ℕ) (i : ℕ) (s : State) (t : List ℕ) (rd : Ready row pass_blanks s) (h : i < length output) where
-  pub got_none : (b : ℕ) (o : Outcome) (t' l' p' : List ℕ) → outcome_giving b o t' l' p' ≡ string_character row terminators s t → going o.status ≡ false → GotOn row terminators output i s t o 0 output t' l' p'
-  got_none b o t' l' p' c g =
-      let z : i ≡ i + 0 = omega arith in
-      record {
-        same = gets.left_ends row terminators (length output) i output s t h (gives_none b o c g) ∙ ap (λ (k : ℕ). done (a_string (take k output) (ending_by o)) (state o.run l' p') t') z ∙ sym (pick_false _ _ g);
-        ready = λ k. absurd (no (sym k ∙ g));
-        less = λ k. absurd (no (sym k ∙ g));
-        within = omega arith;
-        untouched = refl;
-      }
-    where
-      no : true ≡ false → ⊥
-      no p = let o : ◌≡◌ {A = ℕ} 0 1 = cc in omega arith
+  pub got_ends : {x : Ending} {u : State} {t' : List ℕ} → string_character row terminators s t ≡ ends x u t' → gets.left row terminators (length output) i output s t ≡ done (a_string (take i output) x) u t'
+  got_ends f = gets.left_ends row terminators (length output) i output s t h f
 
-  pub got_one : (b : ℕ) (o : Outcome) (t' l' p' : List ℕ) → outcome_giving b o t' l' p' ≡ string_character row terminators s t → going o.status ≡ true → {output' : List ℕ} → output' ≡ set output i b → GotOn row terminators output i s t o 1 output' t' l' p'
-  got_one b o t' l' p' c g {output'} e = record {
-    same = gets.left_one row terminators (length output) i output s t h (gives b o c g) h e ∙ sym (pick_true _ _ g);
-    ready = λ _. gets.string_ready row terminators s t rd (gives b o c g);
-    less = λ _. let x = post_done_of (gets.string_post row terminators pass_blanks s t rd (omega arith)) (gives b o c g) in (site_later row pass_blanks s rd pass_blanks (state o.run l' p') x.valid x.took x.gain).1;
+  pub got_one : {b : ℕ} {u : State} {t' : List ℕ} → string_character row terminators s t ≡ done b u t' → {output' : List ℕ} → output' ≡ set output i b → GotOn row terminators output i s t 1 output' u t'
+  got_one {b} {u} f {output'} e = record {
+    same = gets.left_one row terminators (length output) i output s t h f h e;
+    ready = gets.string_ready row terminators s t rd f;
+    less = let x = post_done_of (gets.string_post row terminators pass_blanks s t rd (omega arith)) f in (site_later row pass_blanks s rd pass_blanks u x.valid x.took x.gain).1;
     within = omega arith;
     untouched = ap (drop (i + 1)) e ∙ drop-set-lt (i + 1) output i b (omega arith);
   }
 
   pub got_more : {room limit n : ℕ} → Room true s (length t) room → limit ≤ room → limit ≤ length output - i → n ≤ limit → {at : ℕ} → at ≡ character_index (shape_of s) (here s) → every (ordinary terminators) (take n (drop at t)) ≡ true → (n ≡ 0 → ⊥)
-      → {y : Run} {output' : List ℕ} {o : Outcome} → y ≡ moved_to s.run (on_by n (here s)) → output' ≡ sets output i (take n (drop at t)) → o ≡ done_by y → GotOn row terminators output i s t o n output' t s.lengths.lines s.lengths.pages
-  got_more {n = n} r a b k {at} e p z {y} {output'} {o} hy ho hx =
+      → {y : Run} {output' : List ℕ} → y ≡ moved_to s.run (on_by n (here s)) → output' ≡ sets output i (take n (drop at t)) → GotOn row terminators output i s t n output' (on_run s y) t
+  got_more {n = n} r a b k {at} e p z {y} {output'} hy ho =
       let m : 0 < n = some_of n z in
       let g = good_facts true s (r.good (omega (arith, a, k, m))) in
       let x = gets.left_run row terminators (length output) i output s t rd m (omega (arith, b, k)) (omega (arith, b, k))
       (record { before = record { page = g.0; line = omega (arith, r.line, a, k); end = omega (arith, r.end refl, a, k) }; there = omega (arith, r.there, a, k); plain = ap (λ (j : ℕ). every (ordinary terminators) (take n (drop j t))) (sym e) ∙ p })
       hy (ho ∙ ap (λ (j : ℕ). sets output i (take n (drop j t))) e) in
-      subst (λ (o : Outcome). GotOn row terminators output i s t o n output' t s.lengths.lines s.lengths.pages) (sym hx)
-      (record { same = x.0; ready = λ _. x.1; less = λ _. moved_less row pass_blanks s m x.1 hy; within = omega (arith, b, k); untouched = ap (drop (i + n)) ho ∙ past_sets (take n (drop at t)) output i (i + n) (simp length-take (omega arith)) })
+      record { same = x.0; ready = x.1; less = moved_less row pass_blanks s m x.1 hy; within = omega (arith, b, k); untouched = ap (drop (i + n)) ho ∙ past_sets (take n (drop at t)) output i (i + n) (simp length-take (omega arith)) }
 
   -- a turn to the next line
   got_turn : turns_here row true s ≡ true → {y : Run} → y ≡ moved_to (signalled_by row s.run) (next_line (here s))
@@ -146,13 +119,6 @@ module _ (row terminators output : List ℕ) (i : ℕ) (s : State) (t : List ℕ
         ready_on row pass_blanks s rd u d.valid d.took (gain_less (omega arith) d.claim),
         (site_later row pass_blanks s rd pass_blanks u d.valid d.took d.claim).1,
       )
-
-module _ {row terminators output : List ℕ} {i : ℕ} {s : State} {t : List ℕ} {o : Outcome} {n : ℕ} {output' t' l' p' : List ℕ} (x : GotOn row terminators output i s t o n output' t' l' p') where
-  pub got_goes : going o.status ≡ true → gets.left row terminators (length output) i output s t ≡ gets.left row terminators (length output) (i + n) output' (state o.run l' p') t'
-  got_goes g = x.same ∙ pick_true _ _ g
-
-  pub got_halts : going o.status ≡ false → gets.left row terminators (length output) i output s t ≡ done (a_string (take (i + n) output') (ending_by o)) (state o.run l' p') t'
-  got_halts g = x.same ∙ pick_false _ _ g
 
 -- ---- the loop of get: i characters stand in the output
 
@@ -172,29 +138,19 @@ module _ {row terminators output₀ : List ℕ} {s₀ : State} {t₀ output : Li
         x.2,
       )
 
-  module _ {o : Outcome} {n : ℕ} {output' t' l' p' : List ℕ} (x : GotOn row terminators output i s t o n output' t' l' p') where
-    so_far : get_characters row terminators (length output₀) [] s₀ t₀ ≡ gets.left row terminators (length output) i output s t
-    so_far = m.same ∙ ap (λ (k : ℕ). gets.left row terminators k i output s t) (sym m.size)
+  so_far : get_characters row terminators (length output₀) [] s₀ t₀ ≡ gets.left row terminators (length output) i output s t
+  so_far = m.same ∙ ap (λ (k : ℕ). gets.left row terminators k i output s t) (sym m.size)
 
-    past : drop (i + n) output' ≡ drop (i + n) output₀
-    past = x.untouched ∙ sym (drop-drop n i output) ∙ ap (drop n) m.untouched ∙ drop-drop n i output₀
+  -- a get that ended before its next character
+  pub getting_ends : i < length output → {x : Ending} {u : State} {t' : List ℕ} → string_character row terminators s t ≡ ends x u t'
+      → (get_characters row terminators (length output₀) [] s₀ t₀ ≡ done (a_string (take i output) x) u t') × (i ≤ length output₀) × (drop i output ≡ drop i output₀)
+  getting_ends h f = (so_far ∙ got_ends row terminators output i s t m.ready h f, m.within, m.untouched)
 
-    pub getting_halts : going o.status ≡ false
-        → (get_characters row terminators (length output₀) [] s₀ t₀ ≡ done (a_string (take (i + n) output') (ending_by o)) (state o.run l' p') t') × (i + n ≤ length output₀) × (drop (i + n) output' ≡ drop (i + n) output₀)
-    getting_halts g = (so_far ∙ got_halts x g, omega (arith, x.within, m.size), past)
-
-    -- with no character more
-    pub getting_stops : n ≡ 0 → going o.status ≡ false
-        → (get_characters row terminators (length output₀) [] s₀ t₀ ≡ done (a_string (take i output') (ending_by o)) (state o.run l' p') t') × (i ≤ length output₀) × (drop i output' ≡ drop i output₀)
-    getting_stops z g =
-        let e : i + n ≡ i = omega (arith, z) in
-        subst (λ (k : ℕ). (get_characters row terminators (length output₀) [] s₀ t₀ ≡ done (a_string (take k output') (ending_by o)) (state o.run l' p') t') × (k ≤ length output₀) × (drop k output' ≡ drop k output₀)) e (getting_halts g)
-
-    pub getting_more : length output' ≡ length output → going o.status ≡ true → Getting row terminators output₀ s₀ t₀ output' (i + n) (state o.run l' p') t'
-    getting_more k g = record {
-      same = so_far ∙ got_goes x g ∙ ap (λ (k : ℕ). gets.left row terminators k (i + n) output' (state o.run l' p') t') m.size;
-      ready = x.ready g;
-      size = k ∙ m.size;
-      within = omega (arith, x.within, m.size);
-      untouched = past;
-    }
+  pub getting_more : {n : ℕ} {output' : List ℕ} {u : State} {t' : List ℕ} → GotOn row terminators output i s t n output' u t' → length output' ≡ length output → Getting row terminators output₀ s₀ t₀ output' (i + n) u t'
+  getting_more {n} {output'} {u} {t'} x k = record {
+    same = so_far ∙ x.same ∙ ap (λ (k : ℕ). gets.left row terminators k (i + n) output' u t') m.size;
+    ready = x.ready;
+    size = k ∙ m.size;
+    within = omega (arith, x.within, m.size);
+    untouched = x.untouched ∙ sym (drop-drop n i output) ∙ ap (drop n) m.untouched ∙ drop-drop n i output₀;
+  }

@@ -1,12 +1,10 @@
 -- What the parts of a string's put and get leave to the rest.
 use Rattle.std.specs.Prelude.{ℕ, ◌+◌, ◌-◌, ◌<◌, ◌≤◌, ◌≡◌, List, Bool, true, false, length, take, drop}
-use Rattle.rules.specs.declared.Outcome.{Outcome}
-use Rattle.rules.specs.Book.{choose, character_index, State, state, here, end_of, shape_of, line_here}
-use Rattle.rules.specs.Step.{ending_by, done, ends, going}
+use Rattle.rules.specs.Book.{character_index, State, here, end_of, shape_of, line_here}
 use Rattle.rules.specs.Steps.{put_character, pass_blanks, rank, printable, measure}
 use Rattle.laws.specs.Runs.{every, ordinary}
 use Rattle.rules.specs.Ready.{Ready}
-use Rattle.rules.specs.Calls.{a_string, put_characters, get_characters}
+use Rattle.rules.specs.Calls.{put_characters, get_characters}
 use Rattle.places.specs.Good.{line_good}
 
 -- n characters from the position on: on a good line, in a text of some size and, reading, before the logical end
@@ -28,36 +26,17 @@ pub record Takable (terminators : List ℕ) (s : State) (t : List ℕ) (limit n 
   pub most : n ≤ limit
   pub plain : every (ordinary terminators) (take n (drop (character_index (shape_of s) (here s)) t)) ≡ true
 
--- of a string of which i characters are put, n more are put, or its put ends
-pub record Put (row bytes : List ℕ) (i : ℕ) (s : State) (t : List ℕ) (o : Outcome) (n : ℕ) (t' l' p' : List ℕ) : Type 0 where
-  pub same : put_characters row true (drop i bytes) s t ≡ choose (going o.status) (put_characters row true (drop (i + n) bytes) (state o.run l' p') t') (ends (ending_by o) (state o.run l' p') t')
-  pub ready : going o.status ≡ true → Ready row (put_character true 0) (state o.run l' p')
-  pub some : 0 < n
+-- of a string of which i characters are put, n more are put; what goes on is nearer the end
+pub record PutOn (row bytes : List ℕ) (i : ℕ) (s : State) (t : List ℕ) (n : ℕ) (u : State) (t' : List ℕ) : Type 0 where
+  pub same : put_characters row true (drop i bytes) s t ≡ put_characters row true (drop (i + n) bytes) u t'
+  pub ready : Ready row (put_character true 0) u
+  pub less : measure row (put_character true 0) u < measure row (put_character true 0) s
   pub within : i + n ≤ length bytes
 
--- of a string of which i characters stand in the output, n more are got, or its get ends
-pub record Got (row terminators output : List ℕ) (i : ℕ) (s : State) (t : List ℕ) (o : Outcome) (n : ℕ) (output' t' l' p' : List ℕ) : Type 0 where
-  pub same : get_characters row terminators (length output - i) (take i output) s t
-      ≡ choose (going o.status) (get_characters row terminators (length output - (i + n)) (take (i + n) output') (state o.run l' p') t') (done (a_string (take (i + n) output') (ending_by o)) (state o.run l' p') t')
-  pub ready : going o.status ≡ true → Ready row pass_blanks (state o.run l' p')
-  pub some : going o.status ≡ true → 0 < n
-  pub within : i + n ≤ length output
-  pub untouched : drop (i + n) output' ≡ drop (i + n) output
-
--- ---- the same with turns to the next line, at which no character is put or got
-
--- of a string of which i characters are put, n more are put, or its put ends; what goes on is nearer the end
-pub record PutOn (row bytes : List ℕ) (i : ℕ) (s : State) (t : List ℕ) (o : Outcome) (n : ℕ) (t' l' p' : List ℕ) : Type 0 where
-  pub same : put_characters row true (drop i bytes) s t ≡ choose (going o.status) (put_characters row true (drop (i + n) bytes) (state o.run l' p') t') (ends (ending_by o) (state o.run l' p') t')
-  pub ready : going o.status ≡ true → Ready row (put_character true 0) (state o.run l' p')
-  pub less : going o.status ≡ true → measure row (put_character true 0) (state o.run l' p') < measure row (put_character true 0) s
-  pub within : i + n ≤ length bytes
-
--- of a string of which i characters stand in the output, n more are got, or its get ends; what goes on is nearer the end
-pub record GotOn (row terminators output : List ℕ) (i : ℕ) (s : State) (t : List ℕ) (o : Outcome) (n : ℕ) (output' t' l' p' : List ℕ) : Type 0 where
-  pub same : get_characters row terminators (length output - i) (take i output) s t
-      ≡ choose (going o.status) (get_characters row terminators (length output - (i + n)) (take (i + n) output') (state o.run l' p') t') (done (a_string (take (i + n) output') (ending_by o)) (state o.run l' p') t')
-  pub ready : going o.status ≡ true → Ready row pass_blanks (state o.run l' p')
-  pub less : going o.status ≡ true → measure row pass_blanks (state o.run l' p') < measure row pass_blanks s
+-- of a string of which i characters stand in the output, n more are got; what goes on is nearer the end
+pub record GotOn (row terminators output : List ℕ) (i : ℕ) (s : State) (t : List ℕ) (n : ℕ) (output' : List ℕ) (u : State) (t' : List ℕ) : Type 0 where
+  pub same : get_characters row terminators (length output - i) (take i output) s t ≡ get_characters row terminators (length output - (i + n)) (take (i + n) output') u t'
+  pub ready : Ready row pass_blanks u
+  pub less : measure row pass_blanks u < measure row pass_blanks s
   pub within : i + n ≤ length output
   pub untouched : drop (i + n) output' ≡ drop (i + n) output

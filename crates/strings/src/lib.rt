@@ -4,7 +4,7 @@
 
 ghost use Rattle.std.specs.Prelude.{◌≡◌, [], true, ◌+◌, ◌-◌, ◌≤◌, ◌<◌, T, length, take, drop};
 ghost use Rattle.rules.specs.Book.{state, row_fits};
-ghost use Rattle.rules.specs.Step.{done, ending_by, outcome_with, outcome_giving, outcome};
+ghost use Rattle.rules.specs.Step.{done, ended_by, ended_with, outcome_giving, outcome};
 ghost use Rattle.rules.specs.Steps.{Action, printable, execute};
 ghost use Rattle.rules.specs.Ready.{Ready, Valid};
 ghost use Rattle.rules.specs.Calls.{a_string, put_characters, take_character, one_of, string_character, get_characters};
@@ -16,22 +16,14 @@ ghost use Rattle.laws.specs.Runs.{on_by, stored_by};
 ghost use Rattle.stores.proofs.Smalls.{SmallRun};
 ghost use Rattle.strings.specs.Parts.{Room, Storable, Takable};
 
-use lines::Taken;
-use rules::{Event, Outcome, Run, Status};
+use rules::{EndedCall, Ending, Outcome, Run, Stop, Taken};
 
 // What a string delivered: the running call after it, how it ended, and how many characters it got.
 #[derive(Clone, Copy)]
 pub struct Delivered {
     pub run: Run,
-    pub status: Status,
+    pub ending: Ending,
     pub count: usize,
-}
-
-// The lesser of two numbers.
-pub fn least(a: usize, b: usize) -> usize
-    ensures { (result ≤ a) × (result ≤ b) }
-{
-    stores::least(a, b)
 }
 
 // How many characters there are from the position on, if its line is good: on the line, and, reading, before the logical end.
@@ -48,15 +40,15 @@ pub fn room_here(run: Run, reading: bool, text: &[u8], lines: &[u8], pages: &[u8
     let character = run.file.position.character;
     let size = places::line_length(shape, lines, pages, page, line);
     let at = places::character_index(shape, page, line, character);
-    let there = stores::minus(text.len(), at);
-    let rest = stores::minus(size + 1, character);
-    let room = least(rest, there);
+    let there = text.len().saturating_sub(at);
+    let rest = (size + 1).saturating_sub(character);
+    let room = rest.min(there);
     if !reading {
         return room;
     }
     if places::on_end_line(run) {
-        let seen = stores::minus(run.end.character, character);
-        return least(room, seen);
+        let seen = run.end.character.saturating_sub(character);
+        return room.min(seen);
     }
     room
 }
@@ -75,7 +67,7 @@ pub fn run_length(
     ensures { Storable (state run lines.now pages.now) (length text.now) bytes.now i result }
 {
     let room = room_here(run, false, text, lines, pages);
-    let limit = least(room, bytes.len() - i);
+    let limit = room.min(bytes.len() - i);
     characters::printable_run(bytes, i, limit)
 }
 
@@ -129,15 +121,11 @@ pub fn put_string(
         } else {
             let b = bytes[i];
             let from = here;
-            let one = lines::try_character(from, true, b, text, lines, pages, row);
-            if !running::goes_on(one) {
-                return one;
-            }
-            here = one.run;
+            here = lines::try_character(from, true, b, text, lines, pages, row)?;
             i += 1;
         }
     }
-    running::finish(here)
+    Ok(here)
 }
 
 // "pass it; a byte outside 32 to 126 signals character, suggesting a blank".
@@ -147,26 +135,19 @@ pub fn take_character(
     lines: &mut [u8],
     pages: &mut [u8],
     row: &[u32],
-) -> Taken
+) -> Result<Taken<u8>, EndedCall>
     requires ready { Ready row.now Action.pass_blanks (state run lines.old pages.old) }
     requires line_is_good { line_good true (state run lines.old pages.old) ≡ true }
     requires row_good { T (row_fits row.now) }
-    ensures { outcome_giving result.byte result.outcome text.new lines.new pages.new ≡ take_character row.now (state run lines.old pages.old) text.old }
+    ensures { outcome_giving result text.new lines.new pages.new ≡ take_character row.now (state run lines.old pages.old) text.old }
 {
     let b = places::character_here(run, text);
-    let on = running::moved(
-        run,
-        run.file.position.page,
-        run.file.position.line,
-        run.file.position.character + 1,
-    );
+    let position = run.file.position;
+    let on = running::moved(run, position.page, position.line, position.character + 1);
     if characters::is_printable(b) {
-        return Taken {
-            outcome: running::finish(on),
-            byte: b,
-        };
+        return Ok(Taken { run: on, value: b });
     }
-    lines::character_event(on, true, 32, text, lines, pages, row)
+    lines::character_event(on, true, b' ', text, lines, pages, row)
 }
 
 // A character of a string: the stops 1 to 3, or as a character.
@@ -177,26 +158,17 @@ pub fn string_character(
     lines: &mut [u8],
     pages: &mut [u8],
     row: &[u32],
-) -> Taken
+) -> Result<Taken<u8>, EndedCall>
     requires ready { Ready row.now Action.pass_blanks (state run lines.old pages.old) }
     requires row_good { T (row_fits row.now) }
-    ensures { outcome_giving result.byte result.outcome text.new lines.new pages.new ≡ string_character row.now terminators.now (state run lines.old pages.old) text.old }
+    ensures { outcome_giving result text.new lines.new pages.new ≡ string_character row.now terminators.now (state run lines.old pages.old) text.old }
 {
-    let good = lines::good_line(run, true, true, text, lines, pages, row);
-    if !running::goes_on(good) {
-        return Taken {
-            outcome: good,
-            byte: 0,
-        };
-    }
-    let b = places::character_here(good.run, text);
+    let good = lines::good_line(run, true, true, text, lines, pages, row)?;
+    let b = places::character_here(good, text);
     if characters::one_of(terminators, b) {
-        return Taken {
-            outcome: running::stopped(good.run, 1),
-            byte: 0,
-        };
+        return Err(running::stopped(good, Stop::Terminator));
     }
-    take_character(good.run, text, lines, pages, row)
+    take_character(good, text, lines, pages, row)
 }
 
 // How many characters can be got at once, of at most a limit: ordinary ones from the position on, before the logical end.
@@ -212,7 +184,7 @@ pub fn ready_length(
     ensures { Takable terminators.now (state run lines.now pages.now) text.now limit result }
 {
     let room = room_here(run, true, text, lines, pages);
-    let most = least(room, limit);
+    let most = room.min(limit);
     let shape = run.file.shape;
     let at = places::character_index(
         shape,
@@ -250,7 +222,7 @@ pub fn get_string(
 ) -> Delivered
     requires ready { Ready row.now Action.pass_blanks (state run lines.old pages.old) }
     requires row_good { T (row_fits row.now) }
-    ensures { (get_characters row.now terminators.now (length output.old) [] (state run lines.old pages.old) text.old ≡ done (a_string (take result.count output.new) (ending_by (outcome_with result.run result.status))) (state result.run lines.new pages.new) text.new) × (result.count ≤ length output.old) × (drop result.count output.new ≡ drop result.count output.old) }
+    ensures { (get_characters row.now terminators.now (length output.old) [] (state run lines.old pages.old) text.old ≡ done (a_string (take result.count output.new) (ended_by (ended_with result.run result.ending))) (state result.run lines.new pages.new) text.new) × (result.count ≤ length output.old) × (drop result.count output.new ≡ drop result.count output.old) }
 {
     let mut here = run;
     let mut i = 0;
@@ -263,29 +235,25 @@ pub fn get_string(
             here = turns::turned_reading(here, row);
         } else {
             let from = here;
-            let got = string_character(from, terminators, text, lines, pages, row);
-            let after = got.outcome;
-            let at = after.run;
-            let status = after.status;
-            if !running::goes_on(after) {
-                return Delivered {
-                    run: at,
-                    status: status,
-                    count: i,
-                };
+            match string_character(from, terminators, text, lines, pages, row) {
+                Ok(taken) => {
+                    output[i] = taken.value;
+                    here = taken.run;
+                    i += 1;
+                }
+                Err(ended) => {
+                    return Delivered {
+                        run: ended.run,
+                        ending: ended.ending,
+                        count: i,
+                    };
+                }
             }
-            output[i] = got.byte;
-            here = at;
-            i += 1;
         }
     }
     Delivered {
         run: here,
-        status: Status {
-            number: 0,
-            stop: 4,
-            event: Event::None,
-        },
+        ending: Ending::Stopped(Stop::OutputFull),
         count: i,
     }
 }

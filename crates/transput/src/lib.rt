@@ -7,14 +7,22 @@ ghost use Rattle.std.specs.Prelude.{◌≡◌, []};
 ghost use Rattle.rules.specs.Whole.{whole};
 ghost use Rattle.rules.specs.Calls.{book, call, plain, asking, establishes, opens, closes, chooses, resets, backspaces, views, view_numbers, puts_character, puts_string, puts_integer, gets_character, gets_string, gets_integer, spaces, newlines, newpages, sets, sets_character_number};
 ghost use Rattle.views.specs.Spans.{view_after, Viewed};
-ghost use Rattle.numbers.specs.Numbers.{after_numbers};
+ghost use Rattle.numbers.specs.Numbers.{after_numbers, InNumbers};
 ghost use Rattle.differences.specs.Compare.{answer, compared, differ, difference_count};
 
 use differs::Differences;
 use numbers::CallResult;
-use rules::{File, Position};
+use rules::{File, Position, Reply};
 use views::ViewPlace;
 use whole::Wrote;
+
+// What a call leaves: the record in its place, and the result in numbers.
+pub fn leave(file: &mut File, reply: Reply) -> CallResult
+    ensures { InNumbers reply file.new result }
+{
+    *file = reply.file;
+    numbers::in_numbers(reply)
+}
 
 // Establishes a book over lent memory: every length full, and no character wiped.
 pub fn transput_establish(
@@ -26,9 +34,7 @@ pub fn transput_establish(
 ) -> CallResult
     ensures { after_numbers file.new result [] text.now lines.new pages.new ≡ call (plain establishes) file.old (book text.now lines.old pages.old end) }
 {
-    let left = numbers::establish(*file, end, text, lines, pages);
-    *file = left.file;
-    left.result
+    leave(file, plain::establish(*file, end, text, lines, pages))
 }
 
 // Opens a book with the logical end that it has.
@@ -41,9 +47,7 @@ pub fn transput_open(
 ) -> CallResult
     ensures { after_numbers file.new result [] text.now lines.now pages.now ≡ call (plain opens) file.old (book text.now lines.now pages.now end) }
 {
-    let left = numbers::open(*file, end, text, lines, pages);
-    *file = left.file;
-    left.result
+    leave(file, plain::open(*file, end, text, lines, pages))
 }
 
 // Closes the record.
@@ -56,9 +60,7 @@ pub fn transput_close(
 ) -> CallResult
     ensures { after_numbers file.new result [] text.now lines.now pages.now ≡ call (plain closes) file.old (book text.now lines.now pages.now end) }
 {
-    let left = numbers::close(*file, end, text, lines, pages);
-    *file = left.file;
-    left.result
+    leave(file, plain::close(*file, end, text, lines, pages))
 }
 
 // Chooses what becomes of a string that does not fit on its line: the Report's split, or refusal 16.
@@ -72,9 +74,7 @@ pub fn transput_choose(
 ) -> CallResult
     ensures { after_numbers file.new result [] text.now lines.now pages.now ≡ call (plain (chooses split)) file.old (book text.now lines.now pages.now end) }
 {
-    let left = numbers::choose(*file, end, split, text, lines, pages);
-    *file = left.file;
-    left.result
+    leave(file, plain::choose(*file, end, split, text, lines, pages))
 }
 
 // Resets the record: its moods by its rights, at (1,1,1).
@@ -87,9 +87,7 @@ pub fn transput_reset(
 ) -> CallResult
     ensures { after_numbers file.new result [] text.now lines.now pages.now ≡ call (plain resets) file.old (book text.now lines.now pages.now end) }
 {
-    let left = numbers::reset(*file, end, text, lines, pages);
-    *file = left.file;
-    left.result
+    leave(file, plain::reset(*file, end, text, lines, pages))
 }
 
 // Backspaces: one character back on the line.
@@ -102,9 +100,7 @@ pub fn transput_backspace(
 ) -> CallResult
     ensures { after_numbers file.new result [] text.now lines.now pages.now ≡ call (plain backspaces) file.old (book text.now lines.now pages.now end) }
 {
-    let left = numbers::backspace(*file, end, text, lines, pages);
-    *file = left.file;
-    left.result
+    leave(file, plain::backspace(*file, end, text, lines, pages))
 }
 
 // Puts a character.
@@ -119,9 +115,10 @@ pub fn transput_put_character(
 ) -> CallResult
     ensures { after_numbers file.new result [] text.new lines.new pages.new ≡ call (asking (puts_character b) row.now) file.old (book text.old lines.old pages.old end) }
 {
-    let left = numbers::put_character(*file, end, b, text, lines, pages, row);
-    *file = left.file;
-    left.result
+    leave(
+        file,
+        puts::put_character(*file, end, b, text, lines, pages, row),
+    )
 }
 
 // Puts the characters of a string in turn.
@@ -136,9 +133,10 @@ pub fn transput_put_string(
 ) -> CallResult
     ensures { after_numbers file.new result [] text.new lines.new pages.new ≡ call (asking (puts_string bytes.now) row.now) file.old (book text.old lines.old pages.old end) }
 {
-    let left = numbers::put_string(*file, end, bytes, text, lines, pages, row);
-    *file = left.file;
-    left.result
+    leave(
+        file,
+        puts::put_string(*file, end, bytes, text, lines, pages, row),
+    )
 }
 
 // Puts an integer: a blank where the line has begun, then whole(v, 11).
@@ -153,9 +151,10 @@ pub fn transput_put_integer(
 ) -> CallResult
     ensures { after_numbers file.new result [] text.new lines.new pages.new ≡ call (asking (puts_integer v) row.now) file.old (book text.old lines.old pages.old end) }
 {
-    let left = numbers::put_integer(*file, end, v, text, lines, pages, row);
-    *file = left.file;
-    left.result
+    leave(
+        file,
+        puts::put_integer(*file, end, v, text, lines, pages, row),
+    )
 }
 
 // Gets a character.
@@ -169,9 +168,10 @@ pub fn transput_get_character(
 ) -> CallResult
     ensures { after_numbers file.new result [] text.new lines.new pages.new ≡ call (asking gets_character row.now) file.old (book text.old lines.old pages.old end) }
 {
-    let left = numbers::get_character(*file, end, text, lines, pages, row);
-    *file = left.file;
-    left.result
+    leave(
+        file,
+        gets::get_character(*file, end, text, lines, pages, row),
+    )
 }
 
 // Gets a string into the lent output.
@@ -187,9 +187,10 @@ pub fn transput_get_string(
 ) -> CallResult
     ensures { after_numbers file.new result output.new text.new lines.new pages.new ≡ call (asking (gets_string terminators.now output.old) row.now) file.old (book text.old lines.old pages.old end) }
 {
-    let left = numbers::get_string(*file, end, terminators, output, text, lines, pages, row);
-    *file = left.file;
-    left.result
+    leave(
+        file,
+        gets::get_string(*file, end, terminators, output, text, lines, pages, row),
+    )
 }
 
 // Gets an integer.
@@ -203,9 +204,7 @@ pub fn transput_get_integer(
 ) -> CallResult
     ensures { after_numbers file.new result [] text.new lines.new pages.new ≡ call (asking gets_integer row.now) file.old (book text.old lines.old pages.old end) }
 {
-    let left = numbers::get_integer(*file, end, text, lines, pages, row);
-    *file = left.file;
-    left.result
+    leave(file, gets::get_integer(*file, end, text, lines, pages, row))
 }
 
 // Space: past a character, reading; a blank put, writing past the end of what is written.
@@ -219,9 +218,7 @@ pub fn transput_space(
 ) -> CallResult
     ensures { after_numbers file.new result [] text.new lines.new pages.new ≡ call (asking spaces row.now) file.old (book text.old lines.old pages.old end) }
 {
-    let left = numbers::space(*file, end, text, lines, pages, row);
-    *file = left.file;
-    left.result
+    leave(file, layout::space(*file, end, text, lines, pages, row))
 }
 
 // Newline: to the start of the next line.
@@ -235,9 +232,7 @@ pub fn transput_newline(
 ) -> CallResult
     ensures { after_numbers file.new result [] text.new lines.new pages.new ≡ call (asking newlines row.now) file.old (book text.old lines.old pages.old end) }
 {
-    let left = numbers::newline(*file, end, text, lines, pages, row);
-    *file = left.file;
-    left.result
+    leave(file, layout::newline(*file, end, text, lines, pages, row))
 }
 
 // Newpage: to the start of the next page.
@@ -251,9 +246,7 @@ pub fn transput_newpage(
 ) -> CallResult
     ensures { after_numbers file.new result [] text.new lines.new pages.new ≡ call (asking newpages row.now) file.old (book text.old lines.old pages.old end) }
 {
-    let left = numbers::newpage(*file, end, text, lines, pages, row);
-    *file = left.file;
-    left.result
+    leave(file, layout::newpage(*file, end, text, lines, pages, row))
 }
 
 // Set: to a place in the book.
@@ -268,9 +261,7 @@ pub fn transput_set(
 ) -> CallResult
     ensures { after_numbers file.new result [] text.new lines.new pages.new ≡ call (asking (sets to) row.now) file.old (book text.old lines.old pages.old end) }
 {
-    let left = numbers::set(*file, end, to, text, lines, pages, row);
-    *file = left.file;
-    left.result
+    leave(file, layout::set(*file, end, to, text, lines, pages, row))
 }
 
 // Set char number: to a place on the line.
@@ -285,9 +276,10 @@ pub fn transput_set_character_number(
 ) -> CallResult
     ensures { after_numbers file.new result [] text.new lines.new pages.new ≡ call (asking (sets_character_number n) row.now) file.old (book text.old lines.old pages.old end) }
 {
-    let left = numbers::set_character_number(*file, end, n, text, lines, pages, row);
-    *file = left.file;
-    left.result
+    leave(
+        file,
+        layout::set_character_number(*file, end, n, text, lines, pages, row),
+    )
 }
 
 // The number of a line view, asked for apart.
@@ -302,7 +294,19 @@ pub fn transput_view_number(
 ) -> CallResult
     ensures { after_numbers file.now result [] text.now lines.now pages.now ≡ call (plain (view_numbers page line)) file.now (book text.now lines.now pages.now end) }
 {
-    numbers::view_number(*file, end, page, line, text, lines, pages)
+    let place = views::view_place(*file, end, page, line, text, lines, pages, &[]);
+    CallResult {
+        number: place.number,
+        stop: 0,
+        given: 0,
+        event: 0,
+        value: 0,
+        events: 0,
+        taken: 0,
+        count: 0,
+        end,
+        signalled: file.position,
+    }
 }
 
 // The line view in numbers: where it lies, in the text or in the marker text.

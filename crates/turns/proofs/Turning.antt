@@ -6,10 +6,10 @@ use mathlib.Core.Bool.{Bool, true, false, not, ◌&&◌}
 use mathlib.Core.List.{List, [], ◌∷◌}
 use lib.Dec.{eqb}
 use lib.ListN.{length}
-use borrow.Author.Tests.{eq-eqb, ne_eqb, eqb-true, not-true}
+use borrow.Author.Tests.{eqb-true, not-true}
 use Rattle.rules.specs.declared.Run.{Run}
 use Rattle.rules.specs.declared.Event.TheVariants.{LineEnd}
-use Rattle.rules.specs.Book.{choose, State, state, on_run, here, end_of, moved_to, both_moved_to, next_line, signalled_by, next_word, kind_of, mending_of, in_mood, rights_of}
+use Rattle.rules.specs.Book.{choose, State, state, on_run, here, end_of, moved_to, both_moved_to, next_line, signalled_by, next_word, Mending, Answer, is_false, jump, is_true, answer_of, in_mood, rights_of}
 use Rattle.rules.specs.Step.{Out, done, ends, ◌>>=◌, and_then, caught, attempt, done_by, file_ended, page_ended, line_ended, on_end_line, end_line, change, fill_line, cut_line}
 use Rattle.rules.specs.Steps.{good_line, at_line_end, newline, answered, put_character, put_character_body, body, execute}
 use Rattle.rules.specs.Ready.{Ready}
@@ -19,54 +19,15 @@ use Rattle.laws.proofs.Unfolding.{unfold_execute}
 use Rattle.laws.proofs.Ways.{Asked, from_default, from_answer, bind_done, test_true, test_false}
 use Rattle.laws.proofs.Runs.{both_true}
 use Rattle.laws.proofs.Cases.{newline_page, newline_closes, held_again}
-use Rattle.laws.proofs.Lines.{law_good_line, good_line_page, good_page_at_once, line_end_splits, line_end_follows, follow_newline, written_done}
+use Rattle.laws.proofs.Lines.{law_good_line, good_line_page, good_page_at_once, line_end_splits, line_end_answered, answered_newline, written_done}
 use Rattle.places.specs.Good.{page_good}
 use Rattle.places.proofs.Goods.{page_good_facts}
-use Rattle.turns.specs.Turns.{in_mood_of, newline_follows, turns_here}
+use Rattle.turns.specs.Turns.{in_mood_of, newline_after, newline_follows, turns_here}
 
 no : {A : Type 0} → true ≡ false → A
 no p = absurd (let o : ◌≡◌ {A = ℕ} 0 1 = cc in omega arith)
 
--- ---- the tests, one by one
-
-module _ (reading : Bool) (r : Run) where
-  pub moods_both : r.file.reading ≡ true → r.file.writing ≡ true → false ≡ in_mood_of reading r
-  moods_both a b = rw (a, b) (by reading)
-    where
-      by : (x : Bool) → false ≡ choose x false false
-      by true = refl
-      by false = refl
-
-  pub moods_read : r.file.reading ≡ true → r.file.writing ≡ false → reading ≡ in_mood_of reading r
-  moods_read a b = rw (a, b) (by reading)
-    where
-      by : (x : Bool) → x ≡ choose x true false
-      by true = refl
-      by false = refl
-
-  pub moods_other : r.file.reading ≡ false → reading ≡ true → false ≡ in_mood_of reading r
-  moods_other a e = rw (a, e)
-
-  pub moods_write : r.file.reading ≡ false → reading ≡ false → r.file.writing ≡ in_mood_of reading r
-  moods_write a e = rw (a, e)
-
-module _ (row : List ℕ) (reading : Bool) (r : Run) {w k : ℕ} (e : w ≡ next_word row r) (f : k ≡ kind_of w) where
-  kind_is : k ≡ kind_of (next_word row r)
-  kind_is = f ∙ ap kind_of e
-
-  pub follows_none : k ≡ 0 → reading ≡ true → false ≡ newline_follows row reading r
-  follows_none z a = rw (eq-eqb _ 0 (sym kind_is ∙ z), a)
-
-  pub follows_split : k ≡ 0 → reading ≡ false → r.file.split ≡ newline_follows row reading r
-  follows_split z a = rw (eq-eqb _ 0 (sym kind_is ∙ z), a)
-
-  pub follows_answer : (k ≡ 0 → ⊥) → k ≡ 2 → {x : Bool} → x ≡ in_mood_of reading r → x ≡ newline_follows row reading r
-  follows_answer z a h = rw (ne_eqb _ 0 (λ o. z (kind_is ∙ o)), eq-eqb _ 2 (sym kind_is ∙ a)) h
-
-  pub follows_other : (k ≡ 0 → ⊥) → (k ≡ 2 → ⊥) → false ≡ newline_follows row reading r
-  follows_other z a = rw (ne_eqb _ 0 (λ o. z (kind_is ∙ o)), ne_eqb _ 2 (λ o. a (kind_is ∙ o)))
-
--- ---- what they say, as facts
+-- ---- what the tests say, as facts
 
 pub record Turns (row : List ℕ) (reading : Bool) (s : State) : Type 0 where
   pub file : file_ended reading s.run ≡ false
@@ -89,13 +50,13 @@ turns_facts row reading s h =
 
 -- ---- the event's answer
 
-abbrev asked : (row : List ℕ) (s : State) → Asked row s (next_word row s.run) (kind_of (next_word row s.run)) (signalled_by row s.run)
-asked row s = record { word = refl; kind = refl; next = refl }
+abbrev asked : (row : List ℕ) (s : State) → Asked row s (answer_of (next_word row s.run)) (signalled_by row s.run)
+asked row s = record { answer = refl; next = refl }
 
 -- the default with the split, or a newline in the call's mood
 data Follows (row : List ℕ) (reading : Bool) (s : State) : Type 0 where
-  by_default : kind_of (next_word row s.run) ≡ 0 → reading ≡ false → s.run.file.split ≡ true → Follows row reading s
-  by_answer : kind_of (next_word row s.run) ≡ 2 → s.run.file.reading ≡ reading → s.run.file.writing ≡ not reading → Follows row reading s
+  by_default : answer_of (next_word row s.run) ≡ is_false → reading ≡ false → s.run.file.split ≡ true → Follows row reading s
+  by_answer : answer_of (next_word row s.run) ≡ is_true Mending.newline → s.run.file.reading ≡ reading → s.run.file.writing ≡ not reading → Follows row reading s
 
 mood : (reading a b : Bool) → choose reading (a && not b) (not a && b) ≡ true → (a ≡ reading) × (b ≡ not reading)
 mood true true true e = no (sym e)
@@ -106,17 +67,18 @@ mood false false true e = (refl, refl)
 mood false false false e = no (sym e)
 
 follows_facts : (row : List ℕ) (reading : Bool) (s : State) → newline_follows row reading s.run ≡ true → Follows row reading s
-follows_facts row reading s h = by (eqb (kind_of (next_word row s.run)) 0) refl h
+follows_facts row reading s h = by (answer_of (next_word row s.run)) refl h
   where
-    by : (b : Bool) → eqb (kind_of (next_word row s.run)) 0 ≡ b → choose b (not reading && s.run.file.split) (eqb (kind_of (next_word row s.run)) 2 && in_mood_of reading s.run) ≡ true → Follows row reading s
-    by true e k = let x = both_true (not reading) s.run.file.split k in by_default (eqb-true _ 0 e) (not-true reading x.0) x.1
-    by false e k =
-        let x = both_true (eqb (kind_of (next_word row s.run)) 2) (in_mood_of reading s.run) k in
-        let m = mood reading s.run.file.reading s.run.file.writing x.1 in
-        by_answer (eqb-true _ 2 x.0) m.0 m.1
-
-two : {k : ℕ} → k ≡ 2 → k ≡ 0 → ⊥
-two e z = omega (arith, e, z)
+    by : (a : Answer) → answer_of (next_word row s.run) ≡ a → newline_after a reading s.run ≡ true → Follows row reading s
+    by is_false e k = let x = both_true (not reading) s.run.file.split k in by_default e (not-true reading x.0) x.1
+    by jump e k = no (sym k)
+    by (is_true Mending.newline) e k = let m = mood reading s.run.file.reading s.run.file.writing k in by_answer e m.0 m.1
+    by (is_true Mending.nothing) e k = no (sym k)
+    by (is_true Mending.newpage) e k = no (sym k)
+    by (is_true Mending.backspace) e k = no (sym k)
+    by (is_true Mending.reset) e k = no (sym k)
+    by (is_true (Mending.set_to x)) e k = no (sym k)
+    by (is_true (Mending.suggest c)) e k = no (sym k)
 
 -- a call whose mood is on stays as it is when the mood is set again
 abbrev with_moods : Run → Bool → Bool → Run
@@ -141,9 +103,9 @@ module _ (row : List ℕ) (s : State) (t : List ℕ) (rd : Ready row (at_line_en
       go (by_default k r p) = no r
       go (by_answer k a b) =
           let u : State = on_run s (signalled_by row s.run) in
-          let ra : Ready row (answered true (mending_of (next_word row s.run))) u = (from_answer (from_start rd) (asked row s) (two k) (answered true (mending_of (next_word row s.run)))).0 in
-          sym (line_end_follows row true true s t rd (asked row s) (two k)
-          (follow_newline row LineEnd true (next_word row s.run) u t ra refl k a h.file h.page h.end e (mood_again_lem y true (ap (λ (z : Run). z.file.reading) e ∙ a) (ap (λ (z : Run). z.file.writing) e ∙ b)) refl))
+          let ra : Ready row (answered true Mending.newline) u = (from_answer (from_start rd) (asked row s) k (answered true Mending.newline)).0 in
+          sym (line_end_answered row true true s t rd (asked row s) k
+          (answered_newline row true Mending.newline u t ra refl a h.file h.page h.end e (mood_again_lem y true (ap (λ (z : Run). z.file.reading) e ∙ a) (ap (λ (z : Run). z.file.writing) e ∙ b)) refl))
 
 -- ---- a writer's turn
 
@@ -178,12 +140,11 @@ module _ (row : List ℕ) (s : State) (t : List ℕ) (rd : Ready row (at_line_en
       go : Follows row false s → execute row (at_line_end false true) s t ≡ done tt (state v l p) t'
       go (by_default k r c) = sym (line_end_splits row false true s t rd (asked row s) k refl refl c (lined (from_default (from_start rd) (asked row s) (newline false) (omega arith)).0))
       go (by_answer k a b) =
-          let w : ℕ = next_word row s.run in
-          let ra : Ready row (answered false (mending_of w)) u = (from_answer (from_start rd) (asked row s) (two k) (answered false (mending_of w))).0 in
-          let rn : Ready row (newline false) u = (from_answer (from_start rd) (asked row s) (two k) (newline false)).0 in
+          let ra : Ready row (answered false Mending.newline) u = (from_answer (from_start rd) (asked row s) k (answered false Mending.newline)).0 in
+          let rn : Ready row (newline false) u = (from_answer (from_start rd) (asked row s) k (newline false)).0 in
           let m = end_line_run (on_run s (moved_to (signalled_by row s.run) (end_of s))) t e in
-          sym (line_end_follows row false true s t rd (asked row s) (two k)
-          (written_done row LineEnd false w u t ra k a b (done_by v) t' l p (lined rn) refl (mood_again_lem v false (ap (λ (z : Run). z.file.reading) m ∙ a) (ap (λ (z : Run). z.file.writing) m ∙ b)) refl))
+          sym (line_end_answered row false true s t rd (asked row s) k
+          (written_done row false Mending.newline u t ra refl a b t' l p (lined rn) refl (mood_again_lem v false (ap (λ (z : Run). z.file.reading) m ∙ a) (ap (λ (z : Run). z.file.writing) m ∙ b)) refl))
 
 -- ---- what follows a turn: good line, and a character put or got, from before it and from after it
 

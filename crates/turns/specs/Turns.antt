@@ -1,7 +1,7 @@
 -- When a line end is a turn to the next line and nothing more: its own event, and no other, is signalled.
-use Rattle.std.specs.Prelude.{Bool, not, ◌&&◌, List, ℕ, eqb}
+use Rattle.std.specs.Prelude.{Bool, false, not, ◌&&◌, List, ℕ}
 use Rattle.rules.specs.declared.Run.{Run}
-use Rattle.rules.specs.Book.{choose, State, kind_of, next_word}
+use Rattle.rules.specs.Book.{choose, State, Mending, Answer, is_false, jump, is_true, answer_of, next_word}
 use Rattle.rules.specs.Step.{line_ended, on_end_line}
 use Rattle.places.specs.Good.{page_good}
 
@@ -10,8 +10,19 @@ abbrev pub in_mood_of : Bool → Run → Bool
 in_mood_of reading r = choose reading (r.file.reading && not r.file.writing) (not r.file.reading && r.file.writing)
 
 -- the event at the end of a string's line is followed by a newline: in a string that is put by the Report's split, or by the answer
+abbrev pub newline_after : Answer → Bool → Run → Bool
+newline_after is_false reading r = not reading && r.file.split
+newline_after jump reading r = false
+newline_after (is_true Mending.newline) reading r = in_mood_of reading r
+newline_after (is_true Mending.nothing) reading r = false
+newline_after (is_true Mending.newpage) reading r = false
+newline_after (is_true Mending.backspace) reading r = false
+newline_after (is_true Mending.reset) reading r = false
+newline_after (is_true (Mending.set_to x)) reading r = false
+newline_after (is_true (Mending.suggest c)) reading r = false
+
 abbrev pub newline_follows : List ℕ → Bool → Run → Bool
-newline_follows row reading r = choose (eqb (kind_of (next_word row r)) 0) (not reading && r.file.split) (eqb (kind_of (next_word row r)) 2 && in_mood_of reading r)
+newline_follows row reading r = newline_after (answer_of (next_word row r)) reading r
 
 -- reading, another line than the logical end's; writing, that line
 abbrev pub turning_line : Bool → Run → Bool

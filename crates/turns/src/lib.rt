@@ -8,39 +8,28 @@ ghost use Rattle.rules.specs.Step.{done, end_line};
 ghost use Rattle.places.specs.Small.{Small};
 ghost use Rattle.turns.specs.Turns.{in_mood_of, newline_follows, turning_line, turns_here};
 
-use rules::Run;
+use rules::{Answer, Mending, Run};
 
 // Whether the mood of a call is on, and the other is not.
 pub fn in_mood_of(run: Run, reading: bool) -> bool
     ensures { result ≡ in_mood_of reading run }
 {
-    if run.file.reading {
-        if run.file.writing {
-            return false;
-        }
-        return reading;
-    }
     if reading {
-        return false;
+        run.file.reading && !run.file.writing
+    } else {
+        !run.file.reading && run.file.writing
     }
-    run.file.writing
 }
 
 // Whether a newline follows the event at the end of a string's line.
 pub fn newline_follows(run: Run, reading: bool, row: &[u32]) -> bool
     ensures { result ≡ newline_follows row.now reading run }
 {
-    let kind = running::kind_of(running::next_word(run, row));
-    if kind == 0 {
-        if reading {
-            return false;
-        }
-        return run.file.split;
+    match running::next_answer(run, row) {
+        Answer::Default => !reading && run.file.split,
+        Answer::Mend(Mending::Newline) => in_mood_of(run, reading),
+        _ => false,
     }
-    if kind == 2 {
-        return in_mood_of(run, reading);
-    }
-    false
 }
 
 // Reading, whether the position is on another line than the logical end's; writing, whether it is on that line.
@@ -56,16 +45,10 @@ pub fn turns(run: Run, reading: bool, lines: &[u8], pages: &[u8], row: &[u32]) -
     requires { Small run.file.shape run.file.position.page run.file.position.line }
     ensures { result ≡ turns_here row.now reading (state run lines.now pages.now) }
 {
-    if !places::page_good(run, reading, pages) {
-        return false;
-    }
-    if !on_turning_line(run, reading) {
-        return false;
-    }
-    if !places::line_ended(run, lines, pages) {
-        return false;
-    }
-    newline_follows(run, reading, row)
+    places::page_good(run, reading, pages)
+        && on_turning_line(run, reading)
+        && places::line_ended(run, lines, pages)
+        && newline_follows(run, reading, row)
 }
 
 // The turn of a reader: the event, and the position at the start of the next line.

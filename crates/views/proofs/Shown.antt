@@ -1,29 +1,34 @@
 -- The views beside their definitions. Assumes nothing.
 use Prim.Native.Nat.{ℕ, ◌+◌, ◌-◌, ◌≤◌, ◌<◌}
 use native.Mathlib.Omega.{arith}
-use mathlib.Core.Path.{◌≡◌, refl, sym, ap, ◌∙◌}
-use mathlib.Core.Bool.{Bool, true, false, not, ◌&&◌}
+use mathlib.Core.Path.{◌≡◌, refl, sym, ap, subst, ◌∙◌}
+use mathlib.Core.Bool.{Bool, true, false}
 use mathlib.Core.List.{List, [], ◌∷◌}
-use lib.Dec.{eqb}
+use lib.Dec.{T, eqb}
 use lib.ListN.{length, take, drop, length-drop}
 use lib.Seq.{length-take-le, take-length}
-use borrow.Author.Tests.{le-leb, lt-leb, eq-eqb, ne_eqb, eqb-true, eqb-false}
+use borrow.Author.Tests.{eq-eqb, ne_eqb, eqb-true, eqb-false}
 use Rattle.rules.specs.declared.Position.{Position}
 use Rattle.rules.specs.declared.File.{File}
 use Rattle.rules.specs.declared.Run.{Run}
+use Rattle.rules.specs.declared.Refusal.{Refusal}
+use Rattle.rules.specs.declared.Refusal.TheVariants.{OutOfRange}
 use Rattle.rules.specs.declared.Reply.{Reply}
-use Rattle.rules.specs.Book.{choose, place, before, within, page_length, line_length, character_index, State, state, run_with, end_of, shape_of}
-use Rattle.rules.specs.Step.{done, ends, Step, ◌>>◌, pure, refusal, need}
+use Rattle.rules.specs.Book.{choose, place, character_index, State, state, run_with, shape_of}
+use Rattle.rules.specs.Step.{Out, done, ends, Step, ◌>>◌, pure, refusal, refusal_number, done_by, need}
 use Rattle.rules.specs.Calls.{nothing, a_view, begin, shown, shown_length, shown_part, or_marker, viewing, view_number, leave, after, Book, book, call, work, plain_work, buffer_of, plain, views, view_numbers}
 use Rattle.places.specs.Small.{Small}
 use Rattle.laws.proofs.Ways.{need_true, need_false, attempt_done, attempt_ends}
 use Rattle.laws.proofs.Entry.{Fits, fits_facts}
 use Rattle.laws.proofs.Shown.{shown_facts, page_in, line_in, shown_in_text}
-use Rattle.entry.specs.Before.{before_work, refused_reply}
+use Rattle.entry.specs.Before.{Tested, before_work, refused_reply, ended_reply}
 use Rattle.begins.proofs.Begins.{start_of, checked_fits, checked_no, checked_on, reply_refused}
 use Rattle.views.specs.declared.Span.{Span}
 use Rattle.views.specs.declared.ViewPlace.{ViewPlace}
-use Rattle.views.specs.Spans.{span, no_span, line_span, span_of, view_after, number_after, view_place, place_of, Viewed}
+use Rattle.views.specs.declared.checked.CheckedBook.{CheckedBook}
+use Rattle.views.specs.Checked.{state_of}
+use Rattle.views.specs.Spans.{line_span, spanned, span_of, view_after, number_after, view_place, place_of, Viewed}
+use Rattle.std.specs.Prelude.{Result, Ok, Err}
 
 -- ---- a shown line's numbers are small
 
@@ -39,64 +44,14 @@ shown_small p l n s fits e =
       characters_high = fits.valid.characters_high;
     }
 
--- ---- the tests of a shown line, one by one
+-- ---- what a checked book keeps
 
-module _ (p l : ℕ) (s : State) where
-  pub shown_page : p < 1 → false ≡ shown p l s
-  unfolding shown within
-  shown_page h = rw (lt-leb 1 p h)
+pub checked_facts : (b : CheckedBook) → Fits (length b.text.now) (state_of b)
+checked_facts b = let s = state_of b in fits_facts (length b.text.now) s (subst T (sym b.fits) tt)
 
-  module _ (h : 1 ≤ p) where
-    pub shown_line : l < 1 → false ≡ shown p l s
-    unfolding shown within
-    shown_line k = rw (le-leb 1 p h, lt-leb 1 l k)
-
-    module _ (k : 1 ≤ l) {m : ℕ} (e : m ≡ page_length s.lengths.pages p) where
-      pub shown_there : m < l → false ≡ shown p l s
-      unfolding shown within
-      shown_there i = rw (le-leb 1 p h, le-leb 1 l k, lt-leb l (page_length s.lengths.pages p) (omega (arith, e, i)))
-
-      pub shown_end : l ≤ m → not (before (place (end_of s).page (end_of s).line 1) (place p l 1)) ≡ shown p l s
-      unfolding shown within
-      shown_end i = rw (le-leb 1 p h, le-leb 1 l k, le-leb l (page_length s.lengths.pages p) (omega (arith, e, i)))
-
-  pub length_on_end : p ≡ (end_of s).page → l ≡ (end_of s).line → (end_of s).character - 1 ≡ shown_length p l s
-  unfolding shown_length
-  length_on_end h k = rw (eq-eqb p (end_of s).page h, eq-eqb l (end_of s).line k)
-
-  pub length-other_line : (l ≡ (end_of s).line → ⊥) → {m : ℕ} → m ≡ line_length (shape_of s) s.lengths p l → m ≡ shown_length p l s
-  unfolding shown_length
-  length-other_line k e = e ∙ by (eqb p (end_of s).page) (eqb l (end_of s).line) (ne_eqb l (end_of s).line k)
-    where
-      by : (a b : Bool) → b ≡ false → line_length (shape_of s) s.lengths p l ≡ choose (a && b) ((end_of s).character - 1) (line_length (shape_of s) s.lengths p l)
-      by true b q = rw q
-      by false b q = refl
-
-  pub length-other_page : (p ≡ (end_of s).page → ⊥) → {m : ℕ} → m ≡ line_length (shape_of s) s.lengths p l → m ≡ shown_length p l s
-  unfolding shown_length
-  length-other_page k e = e ∙ rw (ne_eqb p (end_of s).page k)
-
--- ---- the span
-
-module _ (p l n : ℕ) (s : State) {k : ℕ} (h : k ≡ before_work n s) where
-  span_as : span_of p l n s ≡ choose (eqb k 0) (choose (shown p l s) (line_span p l s) (no_span 6)) (no_span k)
-  span_as = ap (λ (j : ℕ). choose (eqb j 0) (choose (shown p l s) (line_span p l s) (no_span 6)) (no_span j)) (sym h)
-
-  pub span_refused : (k ≡ 0 → ⊥) → no_span k ≡ span_of p l n s
-  span_refused z = sym (span_as ∙ ap (λ (b : Bool). choose b (choose (shown p l s) (line_span p l s) (no_span 6)) (no_span k)) (ne_eqb k 0 z))
-
-  module _ (z : k ≡ 0) where
-    pub span_fits : Fits n s
-    span_fits = fits_facts n s (checked_fits n s (sym h ∙ z))
-
-    span_on : (b : Bool) → shown p l s ≡ b → choose b (line_span p l s) (no_span 6) ≡ span_of p l n s
-    span_on b e = sym (span_as ∙ ap (λ (c : Bool). choose c (choose (shown p l s) (line_span p l s) (no_span 6)) (no_span k)) (eq-eqb k 0 z) ∙ ap (λ (c : Bool). choose c (line_span p l s) (no_span 6)) e)
-
-    pub span_hidden : shown p l s ≡ false → no_span 6 ≡ span_of p l n s
-    span_hidden e = span_on false e
-
-    pub span_shown : shown p l s ≡ true → {from count : ℕ} → from ≡ character_index (shape_of s) (place p l 1) → count ≡ shown_length p l s → span 0 from count ≡ span_of p l n s
-    span_shown e {count = count} f c = ap (λ (x : ℕ). span 0 x count) f ∙ ap (λ (x : ℕ). span 0 (character_index (shape_of s) (place p l 1)) x) c ∙ span_on true e
+-- what the code asks before it computes a shown line's span
+pub shown_in_checked : (b : CheckedBook) (p l : ℕ) → shown p l (state_of b) ≡ true → Small b.run.file.shape p l × (1 ≤ b.run.end.character)
+shown_in_checked b p l e = (shown_small p l (length b.text.now) (state_of b) (checked_facts b) e, (checked_facts b).valid.end_in.character_low)
 
 -- ---- what the span decides
 
@@ -104,63 +59,66 @@ or_some : (x : ℕ) (xs marker : List ℕ) → or_marker (x ∷ xs) marker ≡ x
 unfolding or_marker
 or_some x xs marker = refl
 
-plain_done : (s : State) (t : List ℕ) → after (refused_reply s.run 0) [] t s.lengths.lines s.lengths.pages ≡ leave [] (pure nothing s t)
-unfolding leave pure
-plain_done s t = refl
-
 abbrev view_tests : ℕ → ℕ → Step (List ℕ)
 view_tests p l = begin (need 6 (shown p l) >> shown_part p l)
 
-module _ (p l : ℕ) (s : State) (t : List ℕ) where
-  abbrev number : ℕ
-  number = (span_of p l (length t) s).number
+-- a step where there is a span
+abbrev spans : {A : Type 0} → Result Span Refusal → Out A → State → List ℕ → Out A
+spans (Ok y) x s t = x
+spans (Err n) x s t = ends (refusal (refusal_number n)) s t
 
-  -- the three ways of both calls
-  pub way : {A : Type 0} (rest : Step A) → begin (need 6 (shown p l) >> rest) s t ≡ choose (eqb number 0) (rest s t) (ends (refusal number) s t)
-  way rest = by (before_work (length t) s) refl (eqb (before_work (length t) s) 0) refl (shown p l s) refl
+module _ (p l : ℕ) (s : State) (t : List ℕ) where
+  abbrev span : Result Span Refusal
+  span = span_of p l (length t) s
+
+  -- the ways of both calls
+  way : {A : Type 0} (rest : Step A) → begin (need 6 (shown p l) >> rest) s t ≡ spans span (rest s t) s t
+  way rest = by (before_work (length t) s) refl (shown p l s) refl
     where
-      by : (k : ℕ) → k ≡ before_work (length t) s → (b : Bool) → eqb k 0 ≡ b → (c : Bool) → shown p l s ≡ c
-          → begin (need 6 (shown p l) >> rest) s t ≡ choose (eqb (choose b (choose c (line_span p l s) (no_span 6)) (no_span k)).number 0) (rest s t) (ends (refusal (choose b (choose c (line_span p l s) (no_span 6)) (no_span k)).number) s t)
-      by k h true e true f = checked_on (need 6 (shown p l) >> rest) t h (eqb-true k 0 e) ∙ need_true 6 (shown p l) (λ _. rest) s t f
-      by k h true e false f = checked_on (need 6 (shown p l) >> rest) t h (eqb-true k 0 e) ∙ need_false 6 (shown p l) (λ _. rest) s t f
-      by k h false e c f = checked_no (need 6 (shown p l) >> rest) t h (eqb-false k 0 e) ∙ sym (ap (λ (b : Bool). choose b (rest s t) (ends (refusal k) s t)) e)
+      by : (k : Tested) → k ≡ before_work (length t) s → (c : Bool) → shown p l s ≡ c → begin (need 6 (shown p l) >> rest) s t ≡ spans (spanned k (choose c (Ok (line_span p l s)) (Err OutOfRange))) (rest s t) s t
+      by (Ok u) h true f = checked_on (need 6 (shown p l) >> rest) t h refl ∙ need_true 6 (shown p l) (λ _. rest) s t f
+      by (Ok u) h false f = checked_on (need 6 (shown p l) >> rest) t h refl ∙ need_false 6 (shown p l) (λ _. rest) s t f
+      by (Err n) h c f = checked_no (need 6 (shown p l) >> rest) t h refl
 
   -- a span that is there
-  pub span_there : number ≡ 0 → (span_of p l (length t) s ≡ line_span p l s) × (character_index (shape_of s) (place p l 1) + shown_length p l s ≤ length t) × (length t ≤ 65536)
-  span_there = by (before_work (length t) s) refl (eqb (before_work (length t) s) 0) refl (shown p l s) refl
+  pub span_there : {y : Span} → span ≡ Ok y → (y ≡ line_span p l s) × (character_index (shape_of s) (place p l 1) + shown_length p l s ≤ length t) × (length t ≤ 65536)
+  span_there {y} = by (before_work (length t) s) refl (shown p l s) refl
     where
-      by : (k : ℕ) → k ≡ before_work (length t) s → (b : Bool) → eqb k 0 ≡ b → (c : Bool) → shown p l s ≡ c → (choose b (choose c (line_span p l s) (no_span 6)) (no_span k)).number ≡ 0
-          → (choose b (choose c (line_span p l s) (no_span 6)) (no_span k) ≡ line_span p l s) × (character_index (shape_of s) (place p l 1) + shown_length p l s ≤ length t) × (length t ≤ 65536)
-      by k h true e true f z =
-          let g = span_fits p l (length t) s h (eqb-true k 0 e) in
-          (refl, shown_in_text p l (length t) s g f, omega (arith, g.legal_shape.all_characters, g.sizes.text))
-      by k h true e false f z = absurd (omega (arith, z))
-      by k h false e c f z = absurd (eqb-false k 0 e z)
+      by : (k : Tested) → k ≡ before_work (length t) s → (c : Bool) → shown p l s ≡ c → spanned k (choose c (Ok (line_span p l s)) (Err OutOfRange)) ≡ Ok y
+          → (y ≡ line_span p l s) × (character_index (shape_of s) (place p l 1) + shown_length p l s ≤ length t) × (length t ≤ 65536)
+      by (Ok u) h true f z =
+          let g = fits_facts (length t) s (checked_fits (length t) s {u = u} (sym h)) in
+          (cc, shown_in_text p l (length t) s g f, omega (arith, g.legal_shape.all_characters, g.sizes.text))
+      by (Ok u) h false f z = absurd (let o : ◌≡◌ {A = ℕ} 0 1 = cc in omega arith)
+      by (Err n) h c f z = absurd (let o : ◌≡◌ {A = ℕ} 0 1 = cc in omega arith)
+
+  spans_as : {A : Type 0} (rest : Step A) {y : Result Span Refusal} → span ≡ y → begin (need 6 (shown p l) >> rest) s t ≡ spans y (rest s t) s t
+  spans_as rest e = way rest ∙ ap (λ (y : Result Span Refusal). spans y (rest s t) s t) e
 
   -- the view's number
-  pub number_is : after (refused_reply s.run number) [] t s.lengths.lines s.lengths.pages ≡ leave [] (view_number p l s t)
+  pub number_there : {y : Span} → span ≡ Ok y → after (ended_reply (done_by s.run)) [] t s.lengths.lines s.lengths.pages ≡ leave [] (view_number p l s t)
+  unfolding view_number leave pure
+  number_there e = sym (ap (leave []) (spans_as (pure nothing) e))
+
+  pub number_refused : {n : Refusal} → span ≡ Err n → after (refused_reply s.run n) [] t s.lengths.lines s.lengths.pages ≡ leave [] (view_number p l s t)
   unfolding view_number
-  number_is = by number (eqb number 0) refl ∙ sym (ap (leave []) (way (pure nothing)))
-    where
-      by : (k : ℕ) (b : Bool) → eqb k 0 ≡ b → after (refused_reply s.run k) [] t s.lengths.lines s.lengths.pages ≡ leave [] (choose b (pure nothing s t) (ends (refusal k) s t))
-      by k true e = ap (λ (j : ℕ). after (refused_reply s.run j) [] t s.lengths.lines s.lengths.pages) (eqb-true k 0 e) ∙ plain_done s t
-      by k false e = reply_refused [] s.run k t s.lengths.lines s.lengths.pages refl
+  number_refused {n} e = reply_refused [] s.run n t s.lengths.lines s.lengths.pages refl ∙ sym (ap (leave []) (spans_as (pure nothing) e))
 
   -- the view
   module _ (marker : List ℕ) where
-    pub view_refused : (number ≡ 0 → ⊥) → viewing p l marker s t ≡ done (a_view []) s t
+    pub view_refused : {n : Refusal} → span ≡ Err n → viewing p l marker s t ≡ done (a_view []) s t
     unfolding viewing pure
-    view_refused z = attempt_ends (view_tests p l) _ _ s t (way (shown_part p l) ∙ ap (λ (b : Bool). choose b (shown_part p l s t) (ends (refusal number) s t)) (ne_eqb number 0 z))
+    view_refused e = attempt_ends (view_tests p l) _ _ s t (spans_as (shown_part p l) e)
 
-    view_part : number ≡ 0 → viewing p l marker s t ≡ done (a_view (or_marker (take (shown_length p l s) (drop (character_index (shape_of s) (place p l 1)) t)) marker)) s t
+    view_part : {y : Span} → span ≡ Ok y → viewing p l marker s t ≡ done (a_view (or_marker (take (shown_length p l s) (drop (character_index (shape_of s) (place p l 1)) t)) marker)) s t
     unfolding viewing shown_part pure
-    view_part z = attempt_done (view_tests p l) _ _ s t (way (shown_part p l) ∙ ap (λ (b : Bool). choose b (shown_part p l s t) (ends (refusal number) s t)) (eq-eqb number 0 z))
+    view_part e = attempt_done (view_tests p l) _ _ s t (spans_as (shown_part p l) e)
 
-    pub view_empty : number ≡ 0 → shown_length p l s ≡ 0 → viewing p l marker s t ≡ done (a_view marker) s t
+    pub view_empty : {y : Span} → span ≡ Ok y → shown_length p l s ≡ 0 → viewing p l marker s t ≡ done (a_view marker) s t
     unfolding or_marker
     view_empty z e = view_part z ∙ ap (λ (n : ℕ). done (a_view (or_marker (take n (drop (character_index (shape_of s) (place p l 1)) t)) marker)) s t) e
 
-    pub view_shown : number ≡ 0 → (shown_length p l s ≡ 0 → ⊥) → viewing p l marker s t ≡ done (a_view (take (shown_length p l s) (drop (character_index (shape_of s) (place p l 1)) t))) s t
+    pub view_shown : {y : Span} → span ≡ Ok y → (shown_length p l s ≡ 0 → ⊥) → viewing p l marker s t ≡ done (a_view (take (shown_length p l s) (drop (character_index (shape_of s) (place p l 1)) t))) s t
     view_shown z e = view_part z ∙ ap (λ (x : List ℕ). done (a_view x) s t) (some (take (shown_length p l s) (drop (character_index (shape_of s) (place p l 1)) t)) (long (span_there z).1))
       where
         long : character_index (shape_of s) (place p l 1) + shown_length p l s ≤ length t → 0 < length (take (shown_length p l s) (drop (character_index (shape_of s) (place p l 1)) t))
@@ -175,16 +133,17 @@ module _ (p l : ℕ) (s : State) (t : List ℕ) where
 
 -- ---- as the calls have it
 
-module _ (p l : ℕ) (file : File) (end : Position) (t ls ps : List ℕ) {r : Run} (er : r ≡ run_with file end 0 0) (x : Span) (h : x ≡ span_of p l (length t) (state r ls ps)) where
-  from_start : x ≡ span_of p l (length t) (start_of file end ls ps)
-  from_start = h ∙ ap (λ (y : Run). span_of p l (length t) (state y ls ps)) er
+module _ (p l : ℕ) (file : File) (end : Position) (t ls ps : List ℕ) {r : Run} (er : r ≡ run_with file end 0 0) (x : Result Span Refusal) (h : x ≡ span_of p l (length t) (state r ls ps)) where
+  from_start : {y : Result Span Refusal} → x ≡ y → span_of p l (length t) (start_of file end ls ps) ≡ y
+  from_start e = sym (h ∙ ap (λ (y : Run). span_of p l (length t) (state y ls ps)) er) ∙ e
 
-  same_number : x.number ≡ number p l (start_of file end ls ps) t
-  same_number = ap (λ (y : Span). y.number) from_start
-
-  pub number_call : {reply : Reply} → reply ≡ refused_reply r x.number → after reply [] t ls ps ≡ call (plain (view_numbers p l)) file (book t ls ps end)
+  pub number_call : {y : Span} → x ≡ Ok y → {reply : Reply} → reply ≡ ended_reply (done_by r) → after reply [] t ls ps ≡ call (plain (view_numbers p l)) file (book t ls ps end)
   unfolding call work plain_work buffer_of
-  number_call q = ap (λ (y : Reply). after y [] t ls ps) (q ∙ ap (λ (y : Run). refused_reply y x.number) er ∙ ap (λ (n : ℕ). refused_reply (run_with file end 0 0) n) same_number) ∙ number_is p l (start_of file end ls ps) t
+  number_call e q = ap (λ (y : Reply). after y [] t ls ps) (q ∙ ap (λ (y : Run). ended_reply (done_by y)) er) ∙ number_there p l (start_of file end ls ps) t (from_start e)
+
+  pub refused_call : {n : Refusal} → x ≡ Err n → {reply : Reply} → reply ≡ refused_reply r n → after reply [] t ls ps ≡ call (plain (view_numbers p l)) file (book t ls ps end)
+  unfolding call work plain_work buffer_of
+  refused_call {n} e q = ap (λ (y : Reply). after y [] t ls ps) (q ∙ ap (λ (y : Run). refused_reply y n) er) ∙ number_refused p l (start_of file end ls ps) t (from_start e)
 
   module _ (marker : List ℕ) where
     view_call : (bs : List ℕ) → viewing p l marker (start_of file end ls ps) t ≡ done (a_view bs) (start_of file end ls ps) t → view_after bs file (book t ls ps end) ≡ call (plain (views p l marker)) file (book t ls ps end)
@@ -194,51 +153,42 @@ module _ (p l : ℕ) (file : File) (end : Position) (t ls ps : List ℕ) {r : Ru
     abbrev Place : ViewPlace → Type 0
     Place at = Viewed p l marker file (book t ls ps end) at
 
-    placed : place_of x (length marker) ≡ place_of (span_of p l (length t) (start_of file end ls ps)) (length marker)
-    placed = ap (λ (y : Span). place_of y (length marker)) from_start
+    placed : {y : Result Span Refusal} → x ≡ y → place_of y (length marker) ≡ place_of (span_of p l (length t) (start_of file end ls ps)) (length marker)
+    placed e = ap (λ (z : Result Span Refusal). place_of z (length marker)) (sym (from_start e))
 
-    numbered : number_after x.number file (book t ls ps end) ≡ call (plain (view_numbers p l)) file (book t ls ps end)
-    numbered = number_call {reply = refused_reply (run_with file end 0 0) x.number} (ap (λ (y : Run). refused_reply y x.number) (sym er))
-
-    pub place_refused : (x.number ≡ 0 → ⊥) → Place (view_place x.number true 0 0)
-    place_refused z = record {
-      place = sym (ap (λ (b : Bool). choose b (choose (eqb x.count 0) (view_place 0 true 0 (length marker)) (view_place 0 false x.from x.count)) (view_place x.number true 0 0)) (ne_eqb x.number 0 z)) ∙ placed;
-      number = numbered;
+    pub place_refused : {n : Refusal} → x ≡ Err n → Place (view_place (refusal_number n) true 0 0)
+    place_refused {n} e = record {
+      place = placed e;
+      number = refused_call e {reply = refused_reply (run_with file end 0 0) n} (ap (λ (y : Run). refused_reply y n) (sym er));
       inside = omega arith;
-      characters = view_call [] (view_refused p l (start_of file end ls ps) t marker (λ e. z (same_number ∙ e)));
+      characters = view_call [] (view_refused p l (start_of file end ls ps) t marker (from_start e));
     }
 
-    module _ (z : x.number ≡ 0) where
-      there : (span_of p l (length t) (start_of file end ls ps) ≡ line_span p l (start_of file end ls ps)) × (character_index file.shape (place p l 1) + shown_length p l (start_of file end ls ps) ≤ length t) × (length t ≤ 65536)
-      there = span_there p l (start_of file end ls ps) t (sym same_number ∙ z)
+    module _ {y : Span} (e : x ≡ Ok y) where
+      there : (y ≡ line_span p l (start_of file end ls ps)) × (character_index file.shape (place p l 1) + shown_length p l (start_of file end ls ps) ≤ length t) × (length t ≤ 65536)
+      there = span_there p l (start_of file end ls ps) t (from_start e)
 
-      count_is : x.count ≡ shown_length p l (start_of file end ls ps)
-      count_is = ap (λ (y : Span). y.count) (from_start ∙ there.0)
+      is_line : y ≡ line_span p l (start_of file end ls ps)
+      is_line = there.0
 
-      from_is : x.from ≡ character_index file.shape (place p l 1)
-      from_is = ap (λ (y : Span). y.from) (from_start ∙ there.0)
+      numbered : number_after 0 file (book t ls ps end) ≡ call (plain (view_numbers p l)) file (book t ls ps end)
+      numbered = number_call e {reply = ended_reply (done_by (run_with file end 0 0))} (ap (λ (y : Run). ended_reply (done_by y)) (sym er))
 
-      placed_there : choose (eqb x.count 0) (view_place 0 true 0 (length marker)) (view_place 0 false x.from x.count) ≡ place_of (span_of p l (length t) (start_of file end ls ps)) (length marker)
-      placed_there = sym (ap (λ (b : Bool). choose b (choose (eqb x.count 0) (view_place 0 true 0 (length marker)) (view_place 0 false x.from x.count)) (view_place x.number true 0 0)) (eq-eqb x.number 0 z)) ∙ placed
-
-      numbered_there : number_after 0 file (book t ls ps end) ≡ call (plain (view_numbers p l)) file (book t ls ps end)
-      numbered_there = ap (λ (n : ℕ). number_after n file (book t ls ps end)) (sym z) ∙ numbered
-
-      pub place_empty : x.count ≡ 0 → Place (view_place 0 true 0 (length marker))
-      place_empty e = record {
-        place = sym (ap (λ (b : Bool). choose b (view_place 0 true 0 (length marker)) (view_place 0 false x.from x.count)) (eq-eqb x.count 0 e)) ∙ placed_there;
-        number = numbered_there;
+      pub place_empty : y.count ≡ 0 → Place (view_place 0 true 0 (length marker))
+      place_empty z = record {
+        place = sym (ap (λ (b : Bool). choose b (view_place 0 true 0 (length marker)) (view_place 0 false y.from y.count)) (eq-eqb y.count 0 z)) ∙ placed e;
+        number = numbered;
         inside = omega arith;
-        characters = ap (λ (bs : List ℕ). view_after bs file (book t ls ps end)) (take-length marker) ∙ view_call marker (view_empty p l (start_of file end ls ps) t marker (sym same_number ∙ z) (sym count_is ∙ e));
+        characters = ap (λ (bs : List ℕ). view_after bs file (book t ls ps end)) (take-length marker) ∙ view_call marker (view_empty p l (start_of file end ls ps) t marker (from_start e) (sym (ap (λ (s : Span). s.count) is_line) ∙ z));
       }
 
-      pub place_shown : (x.count ≡ 0 → ⊥) → Place (view_place 0 false x.from x.count)
-      place_shown e = record {
-        place = sym (ap (λ (b : Bool). choose b (view_place 0 true 0 (length marker)) (view_place 0 false x.from x.count)) (ne_eqb x.count 0 e)) ∙ placed_there;
-        number = numbered_there;
-        inside = omega (arith, there.1, count_is, from_is);
-        characters = ap (λ (bs : List ℕ). view_after bs file (book t ls ps end)) (ap (λ (n : ℕ). take n (drop x.from t)) count_is ∙ ap (λ (n : ℕ). take (shown_length p l (start_of file end ls ps)) (drop n t)) from_is)
-            ∙ view_call _ (view_shown p l (start_of file end ls ps) t marker (sym same_number ∙ z) (λ k. e (count_is ∙ k)));
+      pub place_shown : (y.count ≡ 0 → ⊥) → Place (view_place 0 false y.from y.count)
+      place_shown z = record {
+        place = sym (ap (λ (b : Bool). choose b (view_place 0 true 0 (length marker)) (view_place 0 false y.from y.count)) (ne_eqb y.count 0 z)) ∙ placed e;
+        number = numbered;
+        inside = subst (λ (s : Span). s.from + s.count ≤ length t) (sym is_line) there.1;
+        characters = ap (λ (s : Span). view_after (take s.count (drop s.from t)) file (book t ls ps end)) is_line
+            ∙ view_call _ (view_shown p l (start_of file end ls ps) t marker (from_start e) (λ k. z (ap (λ (s : Span). s.count) is_line ∙ k)));
       }
 
 -- ---- a view by its numbers: which of the two lent texts, from where, and how many

@@ -1,26 +1,35 @@
 -- Where a line view lies, and what a view hands back and leaves.
-use Rattle.std.specs.Prelude.{ℕ, ◌+◌, ◌≤◌, ◌≡◌, Bool, true, false, List, [], eqb, length, take, drop}
+use Rattle.std.specs.Prelude.{ℕ, ◌+◌, ◌≤◌, ◌≡◌, Bool, true, false, List, [], Option, Some, None, Result, Ok, Err, eqb, length, take, drop}
 use Rattle.rules.specs.declared.File.{File}
+use Rattle.rules.specs.declared.Refusal.{Refusal}
+use Rattle.rules.specs.declared.Refusal.TheVariants.{OutOfRange}
 use Rattle.rules.specs.Book.{choose, place, character_index, State, shape_of}
-use Rattle.rules.specs.Step.{refusal, finished}
+use Rattle.rules.specs.Step.{refusal, refusal_number, finished}
 use Rattle.rules.specs.Calls.{nothing, a_view, shown, shown_length, After, Book, enter, call, plain, views, view_numbers}
-use Rattle.entry.specs.Before.{before_work}
+use Rattle.entry.specs.Before.{Tested, before_work}
 use Rattle.views.specs.declared.Span.{Span}
 use Rattle.views.specs.declared.ViewPlace.{ViewPlace}
 
-abbrev pub span : ℕ → ℕ → ℕ → Span
-span number from count = record { number = number; from = from; count = count }
-
-abbrev pub no_span : ℕ → Span
-no_span number = span number 0 0
-
 -- the span of a shown line
 abbrev pub line_span : ℕ → ℕ → State → Span
-line_span p l s = span 0 (character_index (shape_of s) (place p l 1)) (shown_length p l s)
+line_span p l s = record { from = character_index (shape_of s) (place p l 1); count = shown_length p l s }
+
+-- where a line lies, if it is shown
+abbrev pub line_or_none : ℕ → ℕ → State → Option Span
+line_or_none p l s = choose (shown p l s) (Some (line_span p l s)) None
 
 -- with n characters lent: 1 or 3, then 6, or the line's span
-abbrev pub span_of : ℕ → ℕ → ℕ → State → Span
-span_of p l n s = choose (eqb (before_work n s) 0) (choose (shown p l s) (line_span p l s) (no_span 6)) (no_span (before_work n s))
+abbrev pub spanned : Tested → Result Span Refusal → Result Span Refusal
+spanned (Ok u) x = x
+spanned (Err n) x = Err n
+
+abbrev pub span_of : ℕ → ℕ → ℕ → State → Result Span Refusal
+span_of p l n s = spanned (before_work n s) (choose (shown p l s) (Ok (line_span p l s)) (Err OutOfRange))
+
+-- the number of a view: that of its refusal, or 0
+abbrev pub number_of : Result Span Refusal → ℕ
+number_of (Ok x) = 0
+number_of (Err n) = refusal_number n
 
 -- all that a view hands back and leaves, with its characters
 abbrev pub view_after : List ℕ → File → Book → After
@@ -35,10 +44,9 @@ view_place number marker from count = record { number = number; marker = marker;
 
 -- where a view lies, with m characters of the marker lent: "if it is empty, the marker text the caller lent is handed back instead";
 -- "A refused view is an empty part of the marker text"
-abbrev pub place_of : Span → ℕ → ViewPlace
-place_of x m = choose (eqb x.number 0)
-    (choose (eqb x.count 0) (view_place 0 true 0 m) (view_place 0 false x.from x.count))
-    (view_place x.number true 0 0)
+abbrev pub place_of : Result Span Refusal → ℕ → ViewPlace
+place_of (Ok x) m = choose (eqb x.count 0) (view_place 0 true 0 m) (view_place 0 false x.from x.count)
+place_of (Err n) m = view_place (refusal_number n) true 0 0
 
 -- the characters there
 abbrev pub part_at : ViewPlace → List ℕ → List ℕ → List ℕ

@@ -7,86 +7,65 @@ ghost use Rattle.rules.specs.Calls.{book, call, after, plain, views, view_number
 ghost use Rattle.places.specs.Small.{Small};
 ghost use Rattle.views.specs.Spans.{span_of, view_after, view_place, Viewed};
 
-use rules::{File, Position, Reply, Run};
+mod checked;
+
+pub use checked::CheckedBook;
+use rules::{File, Position, Refusal, Reply, Run};
 
 // "a shown line (there in its page, and not after the logical end's line ..)".
+#[tactic(auto, unfolding(rules::specs::Calls::shown, rules::specs::Book::within))]
 pub fn is_shown(run: Run, page: usize, line: usize, lines: &[u8], pages: &[u8]) -> bool
     ensures { result ≡ shown page line (state run lines.now pages.now) }
 {
-    if page < 1 {
-        return false;
-    }
-    if line < 1 {
-        return false;
-    }
-    if places::page_length(pages, page) < line {
-        return false;
-    }
     let last = Position {
-        page: run.end.page,
-        line: run.end.line,
         character: 1,
+        ..run.end
     };
     let at = Position {
-        page: page,
-        line: line,
+        page,
+        line,
         character: 1,
     };
-    !places::is_before(last, at)
+    1 <= page
+        && 1 <= line
+        && line <= places::page_length(pages, page)
+        && !places::is_before(last, at)
 }
 
 // How many characters of a line are shown: "up to that end".
+#[tactic(auto, unfolding(rules::specs::Calls::shown_length))]
 pub fn shown_length(run: Run, page: usize, line: usize, lines: &[u8], pages: &[u8]) -> usize
     requires small { Small run.file.shape page line }
     requires le_character { 1 ≤ run.end.character }
     ensures { result ≡ shown_length page line (state run lines.now pages.now) }
 {
-    let shape = run.file.shape;
-    if page != run.end.page {
-        return places::line_length(shape, lines, pages, page, line);
+    if page == run.end.page && line == run.end.line {
+        run.end.character - 1
+    } else {
+        places::line_length(run.file.shape, lines, pages, page, line)
     }
-    if line != run.end.line {
-        return places::line_length(shape, lines, pages, page, line);
-    }
-    run.end.character - 1
 }
 
-// Where a shown line lies: number 0, with the index and the count of its shown characters; or the number of a refusal.
+// Where a shown line lies in the text: the index and the count of its shown characters.
 #[derive(Clone, Copy)]
 pub struct Span {
-    pub number: u8,
     pub from: usize,
     pub count: usize,
 }
 
-// A line that is not shown.
-pub fn no_span(number: u8) -> Span
-    ensures { result ≡ record { number = number; from = 0; count = 0 } }
-{
-    Span {
-        number: number,
-        from: 0,
-        count: 0,
-    }
-}
-
 // The tests of a view, 1, 3 and 6, and the line's span.
-pub fn span_of(run: Run, page: usize, line: usize, text: &[u8], lines: &[u8], pages: &[u8]) -> Span
+pub fn span_of(
+    run: Run,
+    page: usize,
+    line: usize,
+    text: &[u8],
+    lines: &[u8],
+    pages: &[u8],
+) -> Result<Span, Refusal>
     ensures { result ≡ span_of page line (length text.now) (state run lines.now pages.now) }
 {
-    let shape = run.file.shape;
-    let number = entry::number_before(run, text, lines, pages);
-    if number != 0 {
-        return no_span(number);
-    }
-    if !is_shown(run, page, line, lines, pages) {
-        return no_span(6);
-    }
-    Span {
-        number: 0,
-        from: places::character_index(shape, page, line, 1),
-        count: shown_length(run, page, line, lines, pages),
-    }
+    let book = CheckedBook::check(run, text, lines, pages)?;
+    book.line_span(page, line).ok_or(Refusal::OutOfRange)
 }
 
 // The number of a line view, asked for apart.
@@ -102,11 +81,14 @@ pub fn view_number(
     ensures { after result [] text.now lines.now pages.now ≡ call (plain (view_numbers page line)) file (book text.now lines.now pages.now end) }
 {
     let start = entry::start(file, end);
-    let span = span_of(start, page, line, text, lines, pages);
-    entry::refuse(start, span.number)
+    match span_of(start, page, line, text, lines, pages) {
+        Ok(_) => entry::ended(Ok(start)),
+        Err(refusal) => entry::refuse(start, refusal),
+    }
 }
 
-// Where what a view hands back lies, and its number: in the marker text or in the text, from an index on, and how many characters.
+// Where what a view hands back lies, and its number: in the marker text or in the text, from an index on, and how many characters. Its
+// fields stand side by side: it is a type of the C interface.
 #[repr(C)]
 #[derive(Clone, Copy)]
 pub struct ViewPlace {
@@ -116,15 +98,17 @@ pub struct ViewPlace {
     pub count: usize,
 }
 
-// A view by its numbers.
-pub fn view_at(number: u8, marker: bool, from: usize, count: usize) -> ViewPlace
-    ensures { result ≡ view_place number marker from count }
-{
-    ViewPlace {
-        number: number,
-        marker: marker,
-        from: from,
-        count: count,
+impl ViewPlace {
+    // A view by its numbers.
+    pub fn new(number: u8, marker: bool, from: usize, count: usize) -> ViewPlace
+        ensures { result ≡ view_place number marker from count }
+    {
+        ViewPlace {
+            number,
+            marker,
+            from,
+            count,
+        }
     }
 }
 
@@ -142,14 +126,11 @@ pub fn view_place(
     ensures { Viewed page line marker.now file (book text.now lines.now pages.now end) result }
 {
     let start = entry::start(file, end);
-    let span = span_of(start, page, line, text, lines, pages);
-    if span.number != 0 {
-        return view_at(span.number, true, 0, 0);
+    match span_of(start, page, line, text, lines, pages) {
+        Err(refusal) => ViewPlace::new(refusal.number(), true, 0, 0),
+        Ok(span) if span.count == 0 => ViewPlace::new(0, true, 0, marker.len()),
+        Ok(span) => ViewPlace::new(0, false, span.from, span.count),
     }
-    if span.count == 0 {
-        return view_at(0, true, 0, marker.len());
-    }
-    view_at(0, false, span.from, span.count)
 }
 
 // The line view: the part of the text that holds a shown line; the marker where it is empty, and no part of it where it is refused.

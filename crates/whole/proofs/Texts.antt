@@ -2,7 +2,7 @@
 use Prim.Native.Nat.{ℕ, zero, suc, ◌+◌, ◌-◌, ◌≤◌, ◌<◌}
 use native.Mathlib.Omega.{arith}
 use native.Mathlib.Decide.{dec_lt}
-use mathlib.Core.Path.{◌≡◌, refl, sym, ap, ◌∙◌}
+use mathlib.Core.Path.{◌≡◌, refl, sym, ap, subst, ◌∙◌}
 use mathlib.Core.Bool.{Bool, true, false}
 use mathlib.Core.List.{List, [], ◌++◌}
 use lib.Dec.{leb}
@@ -13,6 +13,7 @@ use lib.Signed.{lt_z}
 use borrow.Author.Tests.{le-leb, lt-leb, lt-ltb, le-ltb}
 use Rattle.rules.specs.Whole.{digits, signed, padded, whole_text, lowest, refused_whole, whole}
 use Rattle.whole.specs.Marked.{negative, signs, marked}
+use Rattle.whole.specs.Refused.{Writes}
 use Rattle.whole.proofs.Joined.{sets_left}
 
 -- an integer with its sign is its sign and its absolute value
@@ -88,6 +89,9 @@ eleven_of v l at {n} {below} is-n is_b e = e ∙ ap (λ (x : List ℕ). sets l a
 
 pub length_as_read : {v v' w w' : ℤ} → v ≡ v' → w ≡ w' → length (whole_text v w) ≡ length (whole_text v' w')
 length_as_read p q = λ i. length (whole_text (p i) (q i))
+
+pub writes_as_read : {v v' w w' : ℤ} {room width : ℕ} → v ≡ v' → w ≡ w' → Writes v w room width → Writes v' w' room width
+writes_as_read {room = room} {width = width} p q h = subst (λ (x : ℤ × ℤ). Writes x.0 x.1 room width) (λ i. (p i, q i)) h
 
 pub width_shortest : (v w : ℤ) → w ≡ pos 0 → {s d n : ℕ} → s ≡ length (signs false (negative v)) → d ≡ length (digits n) → n ≡ nat_abs v → s + d ≡ length (whole_text v w)
 unfolding whole_text

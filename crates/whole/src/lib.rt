@@ -1,10 +1,11 @@
 // whole(v, w): an integer as a text, written digit by digit into a lent slice. A store past the slice's end is left out.
 #![tactic(auto)]
 
-ghost use Rattle.std.specs.Prelude.{◌≡◌, ◌+◌, ◌≤◌, ◌<◌, ◌^◌, true, length, replicate, nat_abs, pos};
+ghost use Rattle.std.specs.Prelude.{◌≡◌, ◌+◌, ◌≤◌, ◌<◌, ◌^◌, true, length, replicate, nat_abs, pos, option_to_list, IfOk, IfErr};
 ghost use Rattle.std.proofs.lemmas.List.Edits.{sets};
 ghost use Rattle.rules.specs.Whole.{digits, padded, whole_text, Written, whole};
 ghost use Rattle.whole.specs.Marked.{negative, signs, marked};
+ghost use Rattle.whole.specs.Refused.{number_of, Writes, Refuses};
 
 // Whether an integer is below 0.
 pub fn is_negative(v: i32) -> bool
@@ -18,17 +19,17 @@ pub fn magnitude(v: i32) -> u32
     requires { nat_abs v < 2147483648 }
     ensures { result ≡ nat_abs v }
 {
-    if v < 0 { (0 - v) as u32 } else { v as u32 }
+    v.unsigned_abs()
 }
 
-// How many digits a number has.
+// How many digits a number has. The library has no logarithm to ten, and a chain of quotients would be no plainer than this loop.
 pub fn digit_count(n: u32) -> usize
     ensures { result ≡ length (digits n) }
 {
     let mut count = 1;
     let mut m = n;
     while 10 <= m {
-        m = m / 10;
+        m /= 10;
         count += 1;
     }
     count
@@ -38,10 +39,7 @@ pub fn digit_count(n: u32) -> usize
 pub fn sign_count(plus: bool, negative: bool) -> usize
     ensures { result ≡ length (signs plus negative) }
 {
-    if negative {
-        return 1;
-    }
-    if plus { 1 } else { 0 }
+    usize::from(negative || plus)
 }
 
 // The digits of a number, ending before an index. Gives where they start.
@@ -49,15 +47,27 @@ pub fn put_digits(output: &mut [u8], end: usize, n: u32) -> usize
     requires { length (digits n) ≤ end }
     ensures { (result + length (digits n) ≡ end) × (output.new ≡ sets output.old result (digits n)) }
 {
-    let mut i = end;
     let mut m = n;
-    loop {
-        i -= 1;
-        stores::store_byte(output, i, (48 + m % 10) as u8);
-        m = m / 10;
+    for i in (0..end).rev() {
+        stores::store_byte(output, i, b'0' + (m % 10) as u8);
+        m /= 10;
         if m == 0 {
             return i;
         }
+    }
+    0
+}
+
+// The sign that is shown, if one is.
+pub fn shown_sign(plus: bool, negative: bool) -> Option<u8>
+    ensures { option_to_list result ≡ signs plus negative }
+{
+    if negative {
+        Some(b'-')
+    } else if plus {
+        Some(b'+')
+    } else {
+        None
     }
 }
 
@@ -66,15 +76,13 @@ pub fn put_sign(output: &mut [u8], end: usize, plus: bool, negative: bool) -> us
     requires { length (signs plus negative) ≤ end }
     ensures { (result + length (signs plus negative) ≡ end) × (output.new ≡ sets output.old result (signs plus negative)) }
 {
-    if negative {
-        stores::store_byte(output, end - 1, 45);
-        return end - 1;
+    match shown_sign(plus, negative) {
+        Some(sign) => {
+            stores::store_byte(output, end - 1, sign);
+            end - 1
+        }
+        None => end,
     }
-    if plus {
-        stores::store_byte(output, end - 1, 43);
-        return end - 1;
-    }
-    end
 }
 
 // Some width of characters from an index on: the sign and the digits with blanks on the left, or asterisks.
@@ -84,12 +92,12 @@ pub fn put_padded(output: &mut [u8], at: usize, width: usize, plus: bool, negati
 {
     let size = sign_count(plus, negative) + digit_count(n);
     if width < size {
-        stores::fill(output, at, width, 42);
+        stores::fill(output, at, width, b'*');
         return;
     }
     let first = put_digits(output, at + width, n);
     let start = put_sign(output, first, plus, negative);
-    stores::fill(output, at, start - at, 32);
+    stores::fill(output, at, start - at, b' ');
 }
 
 // The text whole(v, 11) from an index on.
@@ -97,21 +105,19 @@ pub fn put_whole(output: &mut [u8], at: usize, v: i32)
     requires { (nat_abs v < 2147483648) × (at < 2 ^ 31) }
     ensures { output.new ≡ sets output.old at (whole_text v (pos 11)) }
 {
-    let below = is_negative(v);
-    let n = magnitude(v);
-    put_padded(output, at, 11, true, below, n);
+    put_padded(output, at, 11, true, v < 0, v.unsigned_abs());
 }
 
 // How many characters whole(v, w) has.
 pub fn width_of(v: i32, w: i32) -> usize
-    requires { (nat_abs v < 2147483648) × (nat_abs w < 256) }
+    requires { nat_abs w < 256 }
     ensures { (result ≡ length (whole_text v w)) × (result < 256) }
 {
     if w == 0 {
-        let below = is_negative(v);
-        return sign_count(false, below) + digit_count(magnitude(v));
+        sign_count(false, v < 0) + digit_count(v.unsigned_abs())
+    } else {
+        w.unsigned_abs() as usize
     }
-    magnitude(w) as usize
 }
 
 // What a call of whole hands back beside the lent output: its number, and how many characters it wrote.
@@ -122,40 +128,47 @@ pub struct Wrote {
     pub count: usize,
 }
 
+// Why whole(v, w) is refused before anything is written, each with its number.
+#[derive(Clone, Copy)]
+pub enum Refusal {
+    WidthOutOfRange = 6,
+    TooLarge = 9,
+    OutputTooShort = 12,
+}
+
+// How many characters whole(v, w) writes into an output that has room for so many, or why it is refused.
+pub fn width_for(v: i32, w: i32, room: usize) -> Result<usize, Refusal>
+    ensures ok { IfOk result (λ width. Writes v w room width) }
+    ensures err { IfErr result (λ refusal. Refuses v w room (number_of refusal)) }
+{
+    if v == i32::MIN {
+        return Err(Refusal::TooLarge);
+    }
+    if 255 < w.unsigned_abs() {
+        return Err(Refusal::WidthOutOfRange);
+    }
+    let width = width_of(v, w);
+    if room < width {
+        return Err(Refusal::OutputTooShort);
+    }
+    Ok(width)
+}
+
 // whole(v, w) at the start of a lent output.
 pub fn whole(v: i32, w: i32, output: &mut [u8]) -> Wrote
     ensures { record { number = result.number; count = result.count; buffer = output.new } ≡ whole v w output.old }
 {
-    if v == -2147483648 {
-        return Wrote {
-            number: 9,
+    match width_for(v, w, output.len()) {
+        Ok(width) => {
+            put_padded(output, 0, width, 0 < w, v < 0, v.unsigned_abs());
+            Wrote {
+                number: 0,
+                count: width,
+            }
+        }
+        Err(refusal) => Wrote {
+            number: refusal as u8,
             count: 0,
-        };
-    }
-    if w < -255 {
-        return Wrote {
-            number: 6,
-            count: 0,
-        };
-    }
-    if 255 < w {
-        return Wrote {
-            number: 6,
-            count: 0,
-        };
-    }
-    let width = width_of(v, w);
-    if output.len() < width {
-        return Wrote {
-            number: 12,
-            count: 0,
-        };
-    }
-    let below = is_negative(v);
-    let n = magnitude(v);
-    put_padded(output, 0, width, 0 < w, below, n);
-    Wrote {
-        number: 0,
-        count: width,
+        },
     }
 }

@@ -1,11 +1,10 @@
-use Rattle.differences.proofs.Runs.{past_first, past_second, in_both}
+use Rattle.std.proofs.Common.{arith}
+use Rattle.std.proofs.lemmas.Grind.{common_steps}
+use Rattle.std.proofs.lemmas.Option.{gets}
+use Rattle.rules.specs.Book.{within}
+use Rattle.differences.specs.Spans.{place_differs, shows}
 use Rattle.differs.proofs.differs_at.Goals as goal
 
-pub returns-then-xs-place : goal.returns-then-xs-place
-returns-then-xs-place c = past_first _ _ _ c.requires c.if-xs-place.true
-
-pub returns-then-ys-place : goal.returns-then-ys-place
-returns-then-ys-place c = past_second _ _ _ c.requires c.if-xs-place.false c.if-ys-place.true
-
 pub returns : goal.returns
-returns c = in_both _ _ _ c.requires c.if-xs-place.false c.if-ys-place.false
+unfolding place_differs shows within
+returns c = grind (arith, common_steps, gets)

@@ -1,28 +1,25 @@
-use Rattle.differs.proofs.Walks.{inside_more}
-use Rattle.differences.proofs.Runs.{differs_in}
+use Rattle.std.proofs.Common.{◌≡◌, ◌-◌, true, false, rules, arith}
+use Rattle.std.proofs.lemmas.Iterator.{first_from_Range}
+use borrow.Author.Tests.{tests}
 use Rattle.differences.specs.Spans.{place_differs}
-use Prim.Native.Nat.{◌+◌}
-use native.Mathlib.Omega.{arith}
-use mathlib.Core.Path.{◌≡◌, sym, ap, ◌∙◌}
+use Rattle.differences.proofs.Runs.{differs_in}
+use Rattle.differs.specs.Tally.{Stretch}
+use Rattle.differs.proofs.Walks.{stretch_found, stretch_in}
+use Rattle.differs.proofs.run_last.Goals.{After-unwrap_or-next}
 use Rattle.differs.proofs.run_last.Goals as goal
 
-pub loop-last-init : goal.loop-last-init
-loop-last-init c = (omega arith, λ x a b. let e : x ≡ c.args.first = omega arith in ap (place_differs c.args.xs.now c.args.ys.now) e ∙ c.requires.first_differs)
+pub overflow_add-first : goal.overflow_add-first
+overflow_add-first c = omega (arith, differs_in c.args.xs.now c.args.ys.now c.args.first c.requires.first_differs)
 
-pub overflow_add-last : goal.overflow_add-last
-overflow_add-last c = omega (arith, differs_in c.args.xs.now c.args.ys.now c.loop-last.last (c.loop-last.invariant.1 c.loop-last.last c.loop-last.invariant.0 (omega arith)), c.requires.le_first.1, c.requires.le_first.2)
+stretch : (c : After-unwrap_or-next) → Stretch (place_differs c.args.xs.now c.args.ys.now) c.args.first (c.unwrap_or-next.result - 1)
+stretch c =
+    let at = place_differs c.args.xs.now c.args.ys.now in
+    rw c.unwrap_or-next.ensures (
+    stretch_found c.args.xs.now c.args.ys.now c.args.first c.max-limit.result c.find.result c.max-limit.ensures c.requires.first_differs
+    (first_from_Range _ _ _ _ (λ i. at i ≡ false) (λ i. at i ≡ true) c.find.ensures.ran (λ x q k. search (rules, tests)) (λ x q k. search (rules, tests))))
 
-pub differs_at-requires : goal.differs_at-requires
-differs_at-requires c = omega arith
-
-pub overflow_add-last-in-loop-last : goal.overflow_add-last-in-loop-last
-overflow_add-last-in-loop-last c = omega (arith, differs_in c.args.xs.now c.args.ys.now c.loop-last.last (c.loop-last.invariant.1 c.loop-last.last c.loop-last.invariant.0 (omega arith)), c.requires.le_first.1, c.requires.le_first.2)
-
-pub loop-last-smaller : goal.loop-last-smaller
-loop-last-smaller c = omega (arith, differs_in c.args.xs.now c.args.ys.now (c.loop-last.last + 1) (sym c.differs_at.ensures ∙ c.loop-last-test.true))
-
-pub loop-last-preserved : goal.loop-last-preserved
-loop-last-preserved c = (omega (arith, c.loop-last.invariant.0), inside_more (place_differs c.args.xs.now c.args.ys.now) c.args.first c.loop-last.last c.loop-last.invariant.1 (sym c.differs_at.ensures ∙ c.loop-last-test.true))
+pub overflow_sub-result : goal.overflow_sub-result
+overflow_sub-result c = omega (arith, (stretch (goal.at.overflow_sub-result c).After-unwrap_or-next).low)
 
 pub returns : goal.returns
-returns c = record { low = c.loop-last.invariant.0; inside = c.loop-last.invariant.1; after = sym c.differs_at.ensures ∙ c.loop-last-test.false }
+returns c = record { run = stretch c; in_line = stretch_in c.args.xs.now c.args.ys.now (stretch c) }

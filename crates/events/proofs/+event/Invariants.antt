@@ -1,13 +1,14 @@
 -- The proof of the cycle of calls. Every measure is that of the definitions: answers left, then places left, then the action.
 use Rattle.laws.proofs.Ways.{Looped}
 use Rattle.rules.specs.Steps.{Action, measure}
-use Rattle.rules.specs.Book.{state, mending_of}
+use Rattle.rules.specs.Step.{mending_as}
+use Rattle.rules.specs.Book.{state}
 use lib.ListN.{length}
 use mathlib.Core.Path.{◌≡◌}
 use Rattle.events.proofs.+event.Given as goal
 
-abbrev pub decreases-follow : goal.decreases-follow
-decreases-follow l = measure l.row.now (Action.answered l.reading (mending_of l.word)) (state l.run l.lines.now l.pages.now)
+abbrev pub decreases-answered : goal.decreases-answered
+decreases-answered l = measure l.row.now (Action.answered l.reading (mending_as l.mending)) (state l.run l.lines.now l.pages.now)
 
 abbrev pub decreases-good_file : goal.decreases-good_file
 decreases-good_file l = measure l.row.now (Action.good_file l.reading l.string) (state l.run l.lines.now l.pages.now)
@@ -25,16 +26,16 @@ abbrev pub decreases-page_end : goal.decreases-page_end
 decreases-page_end l = measure l.row.now (Action.at_page_end l.reading) (state l.run l.lines.now l.pages.now)
 
 abbrev pub decreases-perform : goal.decreases-perform
-decreases-perform l = measure l.row.now (Action.perform (mending_of l.word)) (state l.run l.lines.now l.pages.now)
+decreases-perform l = measure l.row.now (Action.perform (mending_as l.mending)) (state l.run l.lines.now l.pages.now)
 
 abbrev pub decreases-set_to : goal.decreases-set_to
 decreases-set_to l = measure l.row.now (Action.set_to l.to) (state l.run l.lines.now l.pages.now)
 
-abbrev pub invariant-good_file-loop-word : goal.invariant-good_file-loop-word
-invariant-good_file-loop-word l = Looped l.row (Action.good_file l.reading l.string) (state l.initial.here l.fn.lines l.fn.pages) l.fn.text (state l.here l.lines l.pages) l.text × (length l.text ≡ length l.fn.text) × (length l.lines ≡ length l.fn.lines) × (length l.pages ≡ length l.fn.pages)
+abbrev pub invariant-good_file-loop-next : goal.invariant-good_file-loop-next
+invariant-good_file-loop-next l = Looped l.row (Action.good_file l.reading l.string) (state l.initial.here l.fn.lines l.fn.pages) l.fn.text (state l.here l.lines l.pages) l.text × (length l.text ≡ length l.fn.text) × (length l.lines ≡ length l.fn.lines) × (length l.pages ≡ length l.fn.pages)
 
-abbrev pub decreases-good_file-loop-word : goal.decreases-good_file-loop-word
-decreases-good_file-loop-word l = measure l.row (Action.good_file l.reading l.string) (state l.here l.lines l.pages)
+abbrev pub decreases-good_file-loop-next : goal.decreases-good_file-loop-next
+decreases-good_file-loop-next l = measure l.row (Action.good_file l.reading l.string) (state l.here l.lines l.pages)
 
 abbrev pub invariant-good_page-turning : goal.invariant-good_page-turning
 invariant-good_page-turning l = Looped l.row (Action.good_page l.reading l.string) (state l.initial.here l.fn.lines l.fn.pages) l.fn.text (state l.here l.lines l.pages) l.text × (length l.text ≡ length l.fn.text) × (length l.lines ≡ length l.fn.lines) × (length l.pages ≡ length l.fn.pages)
@@ -42,14 +43,14 @@ invariant-good_page-turning l = Looped l.row (Action.good_page l.reading l.strin
 abbrev pub decreases-good_page-turning : goal.decreases-good_page-turning
 decreases-good_page-turning l = measure l.row (Action.good_page l.reading l.string) (state l.here l.lines l.pages)
 
-abbrev pub invariant-newline-loop-good : goal.invariant-newline-loop-good
-invariant-newline-loop-good l = Looped l.row (Action.newline l.reading) (state l.initial.here l.fn.lines l.fn.pages) l.fn.text (state l.here l.lines l.pages) l.text × (length l.text ≡ length l.fn.text) × (length l.lines ≡ length l.fn.lines) × (length l.pages ≡ length l.fn.pages)
+abbrev pub invariant-newline-loop-at : goal.invariant-newline-loop-at
+invariant-newline-loop-at l = Looped l.row (Action.newline l.reading) (state l.initial.here l.fn.lines l.fn.pages) l.fn.text (state l.here l.lines l.pages) l.text × (length l.text ≡ length l.fn.text) × (length l.lines ≡ length l.fn.lines) × (length l.pages ≡ length l.fn.pages)
 
-abbrev pub decreases-newline-loop-good : goal.decreases-newline-loop-good
-decreases-newline-loop-good l = measure l.row (Action.newline l.reading) (state l.here l.lines l.pages)
+abbrev pub decreases-newline-loop-at : goal.decreases-newline-loop-at
+decreases-newline-loop-at l = measure l.row (Action.newline l.reading) (state l.here l.lines l.pages)
 
-abbrev pub invariant-newpage-loop-good : goal.invariant-newpage-loop-good
-invariant-newpage-loop-good l = Looped l.row (Action.newpage l.reading) (state l.initial.here l.fn.lines l.fn.pages) l.fn.text (state l.here l.lines l.pages) l.text × (length l.text ≡ length l.fn.text) × (length l.lines ≡ length l.fn.lines) × (length l.pages ≡ length l.fn.pages)
+abbrev pub invariant-newpage-loop-at : goal.invariant-newpage-loop-at
+invariant-newpage-loop-at l = Looped l.row (Action.newpage l.reading) (state l.initial.here l.fn.lines l.fn.pages) l.fn.text (state l.here l.lines l.pages) l.text × (length l.text ≡ length l.fn.text) × (length l.lines ≡ length l.fn.lines) × (length l.pages ≡ length l.fn.pages)
 
-abbrev pub decreases-newpage-loop-good : goal.decreases-newpage-loop-good
-decreases-newpage-loop-good l = measure l.row (Action.newpage l.reading) (state l.here l.lines l.pages)
+abbrev pub decreases-newpage-loop-at : goal.decreases-newpage-loop-at
+decreases-newpage-loop-at l = measure l.row (Action.newpage l.reading) (state l.here l.lines l.pages)

@@ -1,15 +1,14 @@
-use mathlib.Core.Path.{sym, ◌∙◌}
 use mathlib.Core.Bool.{true}
 use Rattle.rules.specs.Steps.{Action}
 use Rattle.begins.proofs.Begins.{begun_ready, begun_row}
 use Rattle.gets.proofs.Gets.{string_refused, string_got}
 use Rattle.gets.proofs.get_string.Goals as goal
 
-pub returns-then-not-goes_on : goal.returns-then-not-goes_on
-returns-then-not-goes_on c = string_refused c.args.row.now c.args.file c.args.end c.args.text.now c.args.lines.now c.args.pages.now c.start-start.ensures c.prepared-o.ensures c.args.terminators.now c.args.output.now (sym c.goes_on.ensures ∙ c.if-not-goes_on.true) c.ended.ensures
-
 pub get_string-got-requires : goal.get_string-got-requires
-get_string-got-requires c = record { ready = begun_ready c.args.row.now c.args.file c.args.end c.args.text.now c.args.lines.now c.args.pages.now true c.start-start.ensures c.prepared-o.ensures (sym c.goes_on.ensures ∙ c.if-not-goes_on.false) Action.pass_blanks; row_good = begun_row c.args.row.now c.args.file c.args.end c.args.text.now c.args.lines.now c.args.pages.now true c.start-start.ensures c.prepared-o.ensures (sym c.goes_on.ensures ∙ c.if-not-goes_on.false) }
+get_string-got-requires c = record { ready = begun_ready c.args.row.now c.args.file c.args.end c.args.text.now c.args.lines.now c.args.pages.now true c.start-start.ensures c.prepared.ensures c.in-Ok.is Action.pass_blanks; row_good = begun_row c.args.row.now c.args.file c.args.end c.args.text.now c.args.lines.now c.args.pages.now true c.start-start.ensures c.prepared.ensures c.in-Ok.is }
 
-pub returns : goal.returns
-returns c = string_got c.args.row.now c.args.file c.args.end c.args.text.now c.args.lines.now c.args.pages.now c.start-start.ensures c.prepared-o.ensures c.args.terminators.now c.args.output.now (sym c.goes_on.ensures ∙ c.if-not-goes_on.false) c.get_string-got.result.run c.get_string-got.result.status c.get_string-got.result.count _ _ _ _ c.get_string-got.ensures.0 c.get_string-got.ensures.1 c.get_string-got.ensures.2 c.get_string-got.auto.output c.reply.ensures
+pub returns-in-Ok : goal.returns-in-Ok
+returns-in-Ok c = string_got c.args.row.now c.args.file c.args.end c.args.text.now c.args.lines.now c.args.pages.now c.start-start.ensures c.prepared.ensures c.args.terminators.now c.args.output.now c.in-Ok.is c.get_string-got.result.run c.get_string-got.result.ending c.get_string-got.result.count _ _ _ _ c.get_string-got.ensures.0 c.get_string-got.ensures.1 c.get_string-got.ensures.2 c.get_string-got.auto.output c.reply.ensures
+
+pub returns-in-Err : goal.returns-in-Err
+returns-in-Err c = string_refused c.args.row.now c.args.file c.args.end c.args.text.now c.args.lines.now c.args.pages.now c.start-start.ensures c.prepared.ensures c.args.terminators.now c.args.output.now c.in-Err.is c.ended.ensures

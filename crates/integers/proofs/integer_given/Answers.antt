@@ -1,13 +1,13 @@
 use Rattle.rules.specs.Steps.{Action}
+use Rattle.rules.specs.Step.{answer_as, mending_as}
 use Rattle.rules.specs.Book.{state}
-use mathlib.Core.Path.{sym, ◌∙◌}
+use mathlib.Core.Path.{ap, sym, ◌∙◌}
 use native.Mathlib.Omega.{arith}
 use mathlib.Core.Bool.{true}
-use Rattle.integers.proofs.Sums.{nothing_out, integer_out, nothing_refused}
-use Rattle.rules.specs.Book.{mending_of}
-use Rattle.laws.proofs.Ways.{from_answer}
+use Rattle.integers.proofs.Sums.{integer_out, given_up, given_as}
+use Rattle.laws.proofs.Ways.{reached, halted, from_answer}
 use Rattle.laws.proofs.Progress.{events_small, from_start}
-use Rattle.laws.proofs.Numbers.{given_refused, given_none}
+use Rattle.laws.proofs.Numbers.{given_refused, given_jumps, given_ends, given_none}
 use Rattle.integers.proofs.integer_given.Goals as goal
 
 pub returns-then-value-le2147483647 : goal.returns-then-value-le2147483647
@@ -16,11 +16,17 @@ returns-then-value-le2147483647 c = integer_out c.args.row.now c.args.minus (sta
 pub signalled-next-requires : goal.signalled-next-requires
 signalled-next-requires c = events_small _ _ _ c.requires
 
-pub returns-then-kind_of-eq0 : goal.returns-then-kind_of-eq0
-returns-then-kind_of-eq0 c = nothing_refused c.refused_at-ended.ensures c.found_nothing.ensures ∙ sym (given_refused c.args.row.now c.args.minus c.args.value (state c.args.run c.args.lines.now c.args.pages.now) c.args.text.now (omega (arith, c.if-value-le2147483647.false)) (record { word = c.next_word-word.ensures; kind = c.kind_of.ensures; next = c.signalled-next.ensures }) c.if-kind_of-eq0.true)
+pub answered-requires : goal.answered-requires
+answered-requires c = (from_answer (from_start c.requires) (record { answer = c.next_answer.ensures; next = c.signalled-next.ensures }) (ap answer_as c.in-Mend.is) (Action.answered true (mending_as c.in-Mend.mending))).0
 
-pub follow-after-requires : goal.follow-after-requires
-follow-after-requires c = (from_answer (from_start c.requires) (record { word = c.next_word-word.ensures; kind = c.kind_of.ensures; next = c.signalled-next.ensures }) c.if-kind_of-eq0.false (Action.answered true (mending_of c.next_word-word.result))).0
+pub returns-in_err-run-in-Mend : goal.returns-in_err-run-in-Mend
+returns-in_err-run-in-Mend c = given_up _ c.from_residual.result c.from_residual.ensures.1 (given_ends c.args.row.now c.args.minus c.args.value (state c.args.run c.args.lines.now c.args.pages.now) c.args.text.now (omega (arith, c.if-value-le2147483647.false)) (record { answer = c.next_answer.ensures; next = c.signalled-next.ensures }) (ap answer_as c.in-Mend.is) (halted c.answered.ensures c.in_err-run-in-Mend.was))
 
-pub returns : goal.returns
-returns c = nothing_out c.follow-after.result _ _ _ c.found_nothing-2.ensures ∙ given_none c.args.row.now c.args.minus c.args.value (state c.args.run c.args.lines.now c.args.pages.now) c.args.text.now (omega (arith, c.if-value-le2147483647.false)) (record { word = c.next_word-word.ensures; kind = c.kind_of.ensures; next = c.signalled-next.ensures }) c.if-kind_of-eq0.false c.follow-after.result _ _ _ c.follow-after.ensures
+pub returns-in-Default : goal.returns-in-Default
+returns-in-Default c = given_as c.refused_at.ensures ∙ sym (given_refused c.args.row.now c.args.minus c.args.value (state c.args.run c.args.lines.now c.args.pages.now) c.args.text.now (omega (arith, c.if-value-le2147483647.false)) (record { answer = c.next_answer.ensures; next = c.signalled-next.ensures }) (ap answer_as c.in-Default.is))
+
+pub returns-in-Jump : goal.returns-in-Jump
+returns-in-Jump c = given_as c.refused_at-in-Jump.ensures ∙ sym (given_jumps c.args.row.now c.args.minus c.args.value (state c.args.run c.args.lines.now c.args.pages.now) c.args.text.now (omega (arith, c.if-value-le2147483647.false)) (record { answer = c.next_answer.ensures; next = c.signalled-next.ensures }) (ap answer_as c.in-Jump.is))
+
+pub returns-in_ok-run-in-Mend : goal.returns-in_ok-run-in-Mend
+returns-in_ok-run-in-Mend c = sym (given_none c.args.row.now c.args.minus c.args.value (state c.args.run c.args.lines.now c.args.pages.now) c.args.text.now (omega (arith, c.if-value-le2147483647.false)) (record { answer = c.next_answer.ensures; next = c.signalled-next.ensures }) (ap answer_as c.in-Mend.is) (reached c.answered.ensures c.in_ok-run-in-Mend.was))

@@ -1,4 +1,4 @@
-use Rattle.laws.proofs.Ways.{reached}
+use Rattle.laws.proofs.Ways.{reached, halted}
 use mathlib.Core.Path.{refl, sym, ◌∙◌}
 use native.Mathlib.Omega.{arith}
 use Rattle.laws.proofs.Validity.{near_at}
@@ -9,29 +9,29 @@ use Rattle.integers.proofs.more_digits.Goals as goal
 pub loop-at-init : goal.loop-at-init
 loop-at-init c = (summing_start c.args.text.now c.requires.ready c.requires.first_bound, refl, refl, refl)
 
-pub good_line-good-requires : goal.good_line-good-requires
-good_line-good-requires c = summing_line c.loop-at.invariant.0
+pub good_line-requires : goal.good_line-requires
+good_line-requires c = summing_line c.loop-at.invariant.0
 
-pub returns-then-good-eq0 : goal.returns-then-good-eq0
-returns-then-good-eq0 c = summing_halts c.loop-at.invariant.0 c.good_line-good.result _ _ _ c.good_line-good.ensures (sym c.goes_on.ensures ∙ c.if-not-goes_on.true) c.if-good-eq0.true
+pub returns-in-Stopped : goal.returns-in-Stopped
+returns-in-Stopped c = summing_stops c.loop-at.invariant.0 (halted c.good_line.ensures c.in-Err.is) c.in-Stopped.is
 
-pub returns-then-not-goes_on : goal.returns-then-not-goes_on
-returns-then-not-goes_on c = summing_stops c.loop-at.invariant.0 c.good_line-good.result _ _ _ c.good_line-good.ensures (sym c.goes_on.ensures ∙ c.if-not-goes_on.true) c.if-good-eq0.false c.finish.ensures
+pub returns-in_default : goal.returns-in_default
+returns-in_default c = summing_halts c.loop-at.invariant.0 (halted c.good_line.ensures c.in-Err.is) c.in_default.not-Stopped
 
 pub character_here-b-requires : goal.character_here-b-requires
-character_here-b-requires c = let asked = here_small (summing_valid c.loop-at.invariant.0 (reached c.good_line-good.result c.good_line-good.ensures (sym c.goes_on.ensures ∙ c.if-not-goes_on.false)) refl) in record { small = asked.0; le_character = asked.1 }
+character_here-b-requires c = let asked = here_small (summing_valid c.loop-at.invariant.0 (reached c.good_line.ensures c.in-Ok.is) refl) in record { small = asked.0; le_character = asked.1 }
 
 pub returns-then-not-is_digit : goal.returns-then-not-is_digit
-returns-then-not-is_digit c = summing_stays c.loop-at.invariant.0 (reached c.good_line-good.result c.good_line-good.ensures (sym c.goes_on.ensures ∙ c.if-not-goes_on.false)) c.character_here-b.ensures (sym c.is_digit.ensures ∙ c.if-not-is_digit.true) c.finish-then-not-is_digit.ensures
+returns-then-not-is_digit c = summing_stays c.loop-at.invariant.0 (reached c.good_line.ensures c.in-Ok.is) c.character_here-b.ensures (sym c.is_digit.ensures ∙ c.if-not-is_digit.true)
 
 pub next_value-value-requires : goal.next_value-value-requires
 next_value-value-requires c = (summing_small c.loop-at.invariant.0, (sym c.is_digit.ensures ∙ c.if-not-is_digit.false))
 
 pub passed-here-requires : goal.passed-here-requires
-passed-here-requires c = omega (arith, near_at (summing_valid c.loop-at.invariant.0 (reached c.good_line-good.result c.good_line-good.ensures (sym c.goes_on.ensures ∙ c.if-not-goes_on.false)) refl))
+passed-here-requires c = omega (arith, near_at (summing_valid c.loop-at.invariant.0 (reached c.good_line.ensures c.in-Ok.is) refl))
 
 pub loop-at-smaller : goal.loop-at-smaller
-loop-at-smaller c = summing_less c.loop-at.invariant.0 (reached c.good_line-good.result c.good_line-good.ensures (sym c.goes_on.ensures ∙ c.if-not-goes_on.false)) c.character_here-b.ensures (sym c.is_digit.ensures ∙ c.if-not-is_digit.false) c.passed-here.ensures
+loop-at-smaller c = summing_less c.loop-at.invariant.0 (reached c.good_line.ensures c.in-Ok.is) c.character_here-b.ensures (sym c.is_digit.ensures ∙ c.if-not-is_digit.false) c.passed-here.ensures
 
 pub loop-at-preserved : goal.loop-at-preserved
-loop-at-preserved c = (summing_again c.loop-at.invariant.0 (reached c.good_line-good.result c.good_line-good.ensures (sym c.goes_on.ensures ∙ c.if-not-goes_on.false)) c.character_here-b.ensures (sym c.is_digit.ensures ∙ c.if-not-is_digit.false) c.passed-here.ensures c.next_value-value.ensures, c.good_line-good.auto.text ∙ c.loop-at.invariant.1, c.good_line-good.auto.lines ∙ c.loop-at.invariant.2, c.good_line-good.auto.pages ∙ c.loop-at.invariant.3)
+loop-at-preserved c = (summing_again c.loop-at.invariant.0 (reached c.good_line.ensures c.in-Ok.is) c.character_here-b.ensures (sym c.is_digit.ensures ∙ c.if-not-is_digit.false) c.passed-here.ensures c.next_value-value.ensures, c.good_line.auto.text ∙ c.loop-at.invariant.1, c.good_line.auto.lines ∙ c.loop-at.invariant.2, c.good_line.auto.pages ∙ c.loop-at.invariant.3)

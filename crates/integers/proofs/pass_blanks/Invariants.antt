@@ -5,8 +5,8 @@ use lib.ListN.{length}
 use mathlib.Core.Path.{◌≡◌}
 use Rattle.integers.proofs.pass_blanks.Given as goal
 
-abbrev pub invariant-loop-text : goal.invariant-loop-text
-invariant-loop-text l = Looped l.row Action.pass_blanks (state l.initial.here l.fn.lines l.fn.pages) l.fn.text (state l.here l.lines l.pages) l.text × (length l.text ≡ length l.fn.text) × (length l.lines ≡ length l.fn.lines) × (length l.pages ≡ length l.fn.pages)
+abbrev pub invariant-loop-at : goal.invariant-loop-at
+invariant-loop-at l = Looped l.row Action.pass_blanks (state l.initial.here l.fn.lines l.fn.pages) l.fn.text (state l.here l.lines l.pages) l.text × (length l.text ≡ length l.fn.text) × (length l.lines ≡ length l.fn.lines) × (length l.pages ≡ length l.fn.pages)
 
-abbrev pub decreases-loop-text : goal.decreases-loop-text
-decreases-loop-text l = measure l.row Action.pass_blanks (state l.here l.lines l.pages)
+abbrev pub decreases-loop-at : goal.decreases-loop-at
+decreases-loop-at l = measure l.row Action.pass_blanks (state l.here l.lines l.pages)

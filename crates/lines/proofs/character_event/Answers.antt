@@ -1,23 +1,30 @@
-use Rattle.laws.proofs.Ways.{from_answer}
+use Rattle.laws.proofs.Ways.{gives_up, halted, reached, from_answer}
 use Rattle.laws.proofs.Progress.{events_small, from_start}
+use Rattle.rules.specs.Step.{answer_as, mending_as}
 use Rattle.rules.specs.Steps.{Action}
-use Rattle.rules.specs.Book.{mending_of}
 use native.Mathlib.Omega.{arith}
+use mathlib.Core.Path.{ap, sym, ◌∙◌}
 use Rattle.lines.proofs.Good.{word_suggests}
-use Rattle.laws.proofs.Lines.{event_refuses, event_follows}
+use Rattle.laws.proofs.Lines.{event_refuses, event_jumps, event_ends, event_done}
 use Rattle.lines.proofs.character_event.Goals as goal
 
 pub signalled-next-requires : goal.signalled-next-requires
 signalled-next-requires c = events_small _ _ _ c.requires.ready
 
-pub returns-then-kind_of-eq0 : goal.returns-then-kind_of-eq0
-returns-then-kind_of-eq0 c = event_refuses _ _ _ c.args.text.now (record { word = c.next_word-word.ensures; kind = c.kind_of.ensures; next = c.signalled-next.ensures }) c.if-kind_of-eq0.true _ c.refused_at.ensures
+pub suggestion-value-requires : goal.suggestion-value-requires
+suggestion-value-requires c = word_suggests c.args.row.now c.args.run c.requires.row_good c.args.b (omega (arith, c.well_formed)) (sym c.next_answer.ensures ∙ (ap answer_as c.in-Mend.is))
 
-pub suggestion-byte-requires : goal.suggestion-byte-requires
-suggestion-byte-requires c = word_suggests c.args.row.now c.args.run c.requires.row_good c.args.b (omega (arith, c.well_formed)) c.next_word-word.ensures
+pub answered-requires : goal.answered-requires
+answered-requires c = (from_answer (from_start c.requires.ready) (record { answer = c.next_answer.ensures; next = c.signalled-next.ensures }) (ap answer_as c.in-Mend.is) (Action.answered c.args.reading (mending_as c.in-Mend.mending))).0
 
-pub follow-after-requires : goal.follow-after-requires
-follow-after-requires c = (from_answer (from_start c.requires.ready) (record { word = c.next_word-word.ensures; kind = c.kind_of.ensures; next = c.signalled-next.ensures }) c.if-kind_of-eq0.false (Action.answered c.args.reading (mending_of c.next_word-word.result))).0
+pub returns-in_err-run-in-Mend : goal.returns-in_err-run-in-Mend
+returns-in_err-run-in-Mend c = gives_up _ c.from_residual.result c.from_residual.ensures.1 (event_ends _ _ _ c.args.text.now (record { answer = c.next_answer.ensures; next = c.signalled-next.ensures }) (ap answer_as c.in-Mend.is) (halted c.answered.ensures c.in_err-run-in-Mend.was))
 
-pub returns : goal.returns
-returns c = event_follows _ _ _ c.args.text.now (record { word = c.next_word-word.ensures; kind = c.kind_of.ensures; next = c.signalled-next.ensures }) c.if-kind_of-eq0.false c.follow-after.result _ _ _ c.follow-after.ensures c.suggestion-byte.ensures
+pub returns-in-Default : goal.returns-in-Default
+returns-in-Default c = event_refuses _ _ _ c.args.text.now (record { answer = c.next_answer.ensures; next = c.signalled-next.ensures }) (ap answer_as c.in-Default.is) c.refused_at.ensures
+
+pub returns-in-Jump : goal.returns-in-Jump
+returns-in-Jump c = event_jumps _ _ _ c.args.text.now (record { answer = c.next_answer.ensures; next = c.signalled-next.ensures }) (ap answer_as c.in-Jump.is) c.refused_at-in-Jump.ensures
+
+pub returns-in_ok-run-in-Mend : goal.returns-in_ok-run-in-Mend
+returns-in_ok-run-in-Mend c = event_done _ _ _ c.args.text.now (record { answer = c.next_answer.ensures; next = c.signalled-next.ensures }) (ap answer_as c.in-Mend.is) (reached c.answered.ensures c.in_ok-run-in-Mend.was) c.suggestion-value.ensures

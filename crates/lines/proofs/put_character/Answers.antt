@@ -9,8 +9,8 @@ use Rattle.lines.proofs.put_character.Goals as goal
 pub line_good-requires : goal.line_good-requires
 line_good-requires c = let h = here_small c.requires.ready.valid in record { small = h.0; le_character = h.1.0 }
 
-pub store_character-on-requires : goal.store_character-on-requires
-store_character-on-requires c = let asked = here_small c.requires.ready.valid in record { small = asked.0; le_character = asked.1 }
+pub store_character-requires : goal.store_character-requires
+store_character-requires c = let asked = here_small c.requires.ready.valid in record { small = asked.0; le_character = asked.1 }
 
 pub returns-then-line_good : goal.returns-then-line_good
-returns-then-line_good c = put_stores _ false _ (state c.args.run c.args.lines.now c.args.pages.now) c.args.text.now c.requires.ready (good_line_at_once c.args.row.now false false (state c.args.run c.args.lines.now c.args.pages.now) c.args.text.now (put_line _ false _ (state c.args.run c.args.lines.now c.args.pages.now) c.args.text.now c.requires.ready) (good_facts _ _ (sym c.line_good.ensures ∙ c.if-line_good.true))) (sym c.is_printable.ensures ∙ c.if-is_printable.true) c.store_character-on.ensures.0 c.store_character-on.ensures.1 c.finish.ensures
+returns-then-line_good c = put_stores _ false _ (state c.args.run c.args.lines.now c.args.pages.now) c.args.text.now c.requires.ready (good_line_at_once c.args.row.now false false (state c.args.run c.args.lines.now c.args.pages.now) c.args.text.now (put_line _ false _ (state c.args.run c.args.lines.now c.args.pages.now) c.args.text.now c.requires.ready) (good_facts _ _ (sym c.line_good.ensures ∙ c.if-line_good.true))) (sym c.is_printable.ensures ∙ c.if-is_printable.true) c.store_character.ensures.0 c.store_character.ensures.1

@@ -5,8 +5,8 @@ use mathlib.Core.Path.{◌≡◌}
 use Rattle.laws.proofs.Lines.{Trying}
 use Rattle.lines.proofs.try_character.Given as goal
 
-abbrev pub invariant-loop-good : goal.invariant-loop-good
-invariant-loop-good l = Trying l.row l.string l.initial.c (state l.initial.here l.fn.lines l.fn.pages) l.fn.text l.c (state l.here l.lines l.pages) l.text × (length l.text ≡ length l.fn.text) × (length l.lines ≡ length l.fn.lines) × (length l.pages ≡ length l.fn.pages)
+abbrev pub invariant-loop-at : goal.invariant-loop-at
+invariant-loop-at l = Trying l.row l.string l.initial.c (state l.initial.here l.fn.lines l.fn.pages) l.fn.text l.c (state l.here l.lines l.pages) l.text × (length l.text ≡ length l.fn.text) × (length l.lines ≡ length l.fn.lines) × (length l.pages ≡ length l.fn.pages)
 
-abbrev pub decreases-loop-good : goal.decreases-loop-good
-decreases-loop-good l = measure l.row (Action.put_character l.string l.c) (state l.here l.lines l.pages)
+abbrev pub decreases-loop-at : goal.decreases-loop-at
+decreases-loop-at l = measure l.row (Action.put_character l.string l.c) (state l.here l.lines l.pages)

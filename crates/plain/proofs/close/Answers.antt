@@ -9,8 +9,8 @@ use Rattle.entry.specs.Before.{before_work}
 use Rattle.plain.proofs.Plain.{closes_only, refused_as, done_as, close_is, close_done}
 use Rattle.plain.proofs.close.Goals as goal
 
-pub returns-then-number-ne0 : goal.returns-then-number-ne0
-returns-then-number-ne0 c = refused_as c.args.file c.args.end c.args.text.now c.args.lines.now c.args.pages.now c.start-start.ensures (begin (change closes_only >> pure nothing)) c.number_before-number.result (checked_no _ c.args.text.now (c.number_before-number.ensures ∙ ap (λ (r : Run). before_work (length c.args.text.now) (state r c.args.lines.now c.args.pages.now)) c.start-start.ensures) c.if-number-ne0.true) c.refuse.ensures ∙ sym (close_is c.args.file c.args.end c.args.text.now c.args.lines.now c.args.pages.now)
+pub returns-in-Err : goal.returns-in-Err
+returns-in-Err c = refused_as c.args.file c.args.end c.args.text.now c.args.lines.now c.args.pages.now c.start-start.ensures (begin (change closes_only >> pure nothing)) _ (checked_no _ c.args.text.now (c.test_book.ensures ∙ ap (λ (r : Run). before_work (length c.args.text.now) (state r c.args.lines.now c.args.pages.now)) c.start-start.ensures) c.in-Err.is) c.refuse.ensures ∙ sym (close_is c.args.file c.args.end c.args.text.now c.args.lines.now c.args.pages.now)
 
 pub returns : goal.returns
-returns c = done_as c.args.file c.args.end c.args.text.now c.args.lines.now c.args.pages.now (begin (change closes_only >> pure nothing)) _ c.args.end _ _ (checked_on _ c.args.text.now (c.number_before-number.ensures ∙ ap (λ (r : Run). before_work (length c.args.text.now) (state r c.args.lines.now c.args.pages.now)) c.start-start.ensures) c.if-number-ne0.false ∙ close_done c.args.file c.args.end c.args.text.now c.args.lines.now c.args.pages.now) c.done.ensures ∙ sym (close_is c.args.file c.args.end c.args.text.now c.args.lines.now c.args.pages.now)
+returns c = done_as c.args.file c.args.end c.args.text.now c.args.lines.now c.args.pages.now (begin (change closes_only >> pure nothing)) _ c.args.end _ _ (checked_on _ c.args.text.now (c.test_book.ensures ∙ ap (λ (r : Run). before_work (length c.args.text.now) (state r c.args.lines.now c.args.pages.now)) c.start-start.ensures) c.in_default.is ∙ close_done c.args.file c.args.end c.args.text.now c.args.lines.now c.args.pages.now) c.done.ensures ∙ sym (close_is c.args.file c.args.end c.args.text.now c.args.lines.now c.args.pages.now)

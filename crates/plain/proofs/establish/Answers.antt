@@ -11,13 +11,14 @@ use Rattle.rules.specs.declared.Run.{Run}
 use Rattle.plain.proofs.Plain.{sets_all, refused_as, done_as, establish_is, establish_shape, establish_right, establish_done}
 use Rattle.rules.specs.declared.File.{File}
 use Rattle.plain.specs.Done.{done_reply}
+use Rattle.rules.specs.declared.Refusal.TheVariants.{BadBook, RightMissing}
 use Rattle.plain.proofs.establish.Goals as goal
 
 pub returns-then-not-shape_fits : goal.returns-then-not-shape_fits
-returns-then-not-shape_fits c = refused_as c.args.file c.args.end c.args.text.now c.args.lines.now c.args.pages.now c.start-start.ensures establishing 3 (establish_shape c.args.file c.args.end c.args.text.now c.args.lines.now c.args.pages.now (sym (ap (λ (r : Run). shape_fits (length c.args.text.now) (state r c.args.lines.now c.args.pages.now)) c.start-start.ensures) ∙ sym c.shape_fits.ensures ∙ c.if-not-shape_fits.true)) c.refuse.ensures ∙ sym (establish_is c.args.file c.args.end c.args.text.now c.args.lines.now c.args.pages.now)
+returns-then-not-shape_fits c = refused_as c.args.file c.args.end c.args.text.now c.args.lines.now c.args.pages.now c.start-start.ensures establishing BadBook (establish_shape c.args.file c.args.end c.args.text.now c.args.lines.now c.args.pages.now (sym (ap (λ (r : Run). shape_fits (length c.args.text.now) (state r c.args.lines.now c.args.pages.now)) c.start-start.ensures) ∙ sym c.shape_fits.ensures ∙ c.if-not-shape_fits.true)) c.refuse.ensures ∙ sym (establish_is c.args.file c.args.end c.args.text.now c.args.lines.now c.args.pages.now)
 
 pub returns-then-not-file : goal.returns-then-not-file
-returns-then-not-file c = refused_as c.args.file c.args.end c.args.text.now c.args.lines.now c.args.pages.now c.start-start.ensures establishing 4 (establish_right c.args.file c.args.end c.args.text.now c.args.lines.now c.args.pages.now (sym (ap (λ (r : Run). shape_fits (length c.args.text.now) (state r c.args.lines.now c.args.pages.now)) c.start-start.ensures) ∙ sym c.shape_fits.ensures ∙ c.if-not-shape_fits.false) (not-true c.args.file.rights.put c.if-not-file.true)) c.refuse-then-not-file.ensures ∙ sym (establish_is c.args.file c.args.end c.args.text.now c.args.lines.now c.args.pages.now)
+returns-then-not-file c = refused_as c.args.file c.args.end c.args.text.now c.args.lines.now c.args.pages.now c.start-start.ensures establishing RightMissing (establish_right c.args.file c.args.end c.args.text.now c.args.lines.now c.args.pages.now (sym (ap (λ (r : Run). shape_fits (length c.args.text.now) (state r c.args.lines.now c.args.pages.now)) c.start-start.ensures) ∙ sym c.shape_fits.ensures ∙ c.if-not-shape_fits.false) (not-true c.args.file.rights.put c.if-not-file.true)) c.refuse-then-not-file.ensures ∙ sym (establish_is c.args.file c.args.end c.args.text.now c.args.lines.now c.args.pages.now)
 
 pub overflow_cast-file : goal.overflow_cast-file
 overflow_cast-file c = omega (arith, (shape_legal (length c.args.text.now) (start_of c.args.file c.args.end c.args.lines.now c.args.pages.now) (sym (ap (λ (r : Run). shape_fits (length c.args.text.now) (state r c.args.lines.now c.args.pages.now)) c.start-start.ensures) ∙ sym c.shape_fits.ensures ∙ c.if-not-shape_fits.false)).characters)

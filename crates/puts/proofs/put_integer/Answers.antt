@@ -8,13 +8,13 @@ use Rattle.puts.proofs.Puts.{integer_refused, integer_put, lowest_refused}
 use Rattle.puts.proofs.put_integer.Goals as goal
 
 pub returns-then-v-eqminus2147483648 : goal.returns-then-v-eqminus2147483648
-returns-then-v-eqminus2147483648 c = lowest_refused c.args.row.now c.args.file c.args.end c.args.text.now c.args.lines.now c.args.pages.now c.start-start.ensures c.lowest-refused.ensures c.args.v (is_lowest _ c.ranges.v c.if-v-eqminus2147483648.true) c.ended.ensures
+returns-then-v-eqminus2147483648 c = lowest_refused c.args.row.now c.args.file c.args.end c.args.text.now c.args.lines.now c.args.pages.now c.start-start.ensures c.lowest.ensures c.args.v (is_lowest _ c.ranges.v c.if-v-eqminus2147483648.true) c.ended.ensures
 
-pub returns-then-not-goes_on : goal.returns-then-not-goes_on
-returns-then-not-goes_on c = integer_refused c.args.row.now c.args.file c.args.end c.args.text.now c.args.lines.now c.args.pages.now c.start-start.ensures c.prepared-o.ensures c.args.v (not_lowest _ c.ranges.v c.if-v-eqminus2147483648.false).0 (sym c.goes_on.ensures ∙ c.if-not-goes_on.true) c.ended-then-not-goes_on.ensures
+pub put_integer-requires : goal.put_integer-requires
+put_integer-requires c = record { ready = begun_ready c.args.row.now c.args.file c.args.end c.args.text.now c.args.lines.now c.args.pages.now false c.start-start.ensures c.prepared.ensures c.in-Ok.is (Action.room_for 11); v_bound = omega (arith, not_lowest _ c.ranges.v c.if-v-eqminus2147483648.false, read_absolute _ c.ranges.v) }
 
-pub put_integer-put-requires : goal.put_integer-put-requires
-put_integer-put-requires c = record { ready = begun_ready c.args.row.now c.args.file c.args.end c.args.text.now c.args.lines.now c.args.pages.now false c.start-start.ensures c.prepared-o.ensures (sym c.goes_on.ensures ∙ c.if-not-goes_on.false) (Action.room_for 11); v_bound = omega (arith, not_lowest _ c.ranges.v c.if-v-eqminus2147483648.false, read_absolute _ c.ranges.v) }
+pub returns-in-Ok : goal.returns-in-Ok
+returns-in-Ok c = integer_put c.args.row.now c.args.file c.args.end c.args.text.now c.args.lines.now c.args.pages.now c.start-start.ensures c.prepared.ensures c.args.v (not_lowest _ c.ranges.v c.if-v-eqminus2147483648.false).0 c.in-Ok.is (read_is _ c.ranges.v) c.put_integer.result _ _ _ c.put_integer.ensures c.ended-in-Ok.ensures
 
-pub returns : goal.returns
-returns c = integer_put c.args.row.now c.args.file c.args.end c.args.text.now c.args.lines.now c.args.pages.now c.start-start.ensures c.prepared-o.ensures c.args.v (not_lowest _ c.ranges.v c.if-v-eqminus2147483648.false).0 (sym c.goes_on.ensures ∙ c.if-not-goes_on.false) (read_is _ c.ranges.v) c.put_integer-put.result _ _ _ c.put_integer-put.ensures c.ended-2.ensures
+pub returns-in-Err : goal.returns-in-Err
+returns-in-Err c = integer_refused c.args.row.now c.args.file c.args.end c.args.text.now c.args.lines.now c.args.pages.now c.start-start.ensures c.prepared.ensures c.args.v (not_lowest _ c.ranges.v c.if-v-eqminus2147483648.false).0 c.in-Err.is c.ended-in-Err.ensures

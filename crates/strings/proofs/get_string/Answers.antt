@@ -1,10 +1,10 @@
 use Rattle.strings.proofs.Parts.{run_short, run_there, getting_start, getting_full}
-use Rattle.strings.proofs.Turned.{got_none, got_one, got_more, getting_turn, getting_stops, getting_more}
+use Rattle.strings.proofs.Turned.{got_one, got_more, getting_turn, getting_ends, getting_more}
 use mathlib.Core.Path.{refl, sym, ◌∙◌}
 use native.Mathlib.Omega.{arith}
 use lib.ListN.{length-set}
 use Rattle.rules.specs.Book.{state}
-use Rattle.rules.specs.Step.{done_by}
+use Rattle.laws.proofs.Ways.{gives, gives_none}
 use Rattle.rules.specs.Steps.{pass_blanks}
 use Rattle.laws.proofs.Progress.{events_small}
 use Rattle.stores.proofs.Smalls.{here_small}
@@ -26,10 +26,10 @@ pub overflow_add-i : goal.overflow_add-i
 overflow_add-i c = omega (arith, c.ready_length-n.ensures.most, c.loop-i-test.true, c.well_formed)
 
 pub loop-i-smaller-then-n-ne0 : goal.loop-i-smaller-then-n-ne0
-loop-i-smaller-then-n-ne0 c = (got_more c.args.row.now c.args.terminators.now c.loop-i.output c.loop-i.i (state c.loop-i.here c.loop-i.lines c.loop-i.pages) c.loop-i.text c.loop-i.invariant.0.ready c.loop-i-test.true c.ready_length-n.ensures.room (omega arith) c.ready_length-n.ensures.most (omega arith) refl c.ready_length-n.ensures.plain c.if-n-ne0.true {o = done_by c.take_some-here.result} c.take_some-here.ensures.0 c.take_some-here.ensures.1 refl).less refl
+loop-i-smaller-then-n-ne0 c = (got_more c.args.row.now c.args.terminators.now c.loop-i.output c.loop-i.i (state c.loop-i.here c.loop-i.lines c.loop-i.pages) c.loop-i.text c.loop-i.invariant.0.ready c.loop-i-test.true c.ready_length-n.ensures.room (omega arith) c.ready_length-n.ensures.most (omega arith) refl c.ready_length-n.ensures.plain c.if-n-ne0.true c.take_some-here.ensures.0 c.take_some-here.ensures.1).less
 
 pub loop-i-preserved-then-n-ne0 : goal.loop-i-preserved-then-n-ne0
-loop-i-preserved-then-n-ne0 c = (getting_more c.loop-i.invariant.0 (got_more c.args.row.now c.args.terminators.now c.loop-i.output c.loop-i.i (state c.loop-i.here c.loop-i.lines c.loop-i.pages) c.loop-i.text c.loop-i.invariant.0.ready c.loop-i-test.true c.ready_length-n.ensures.room (omega arith) c.ready_length-n.ensures.most (omega arith) refl c.ready_length-n.ensures.plain c.if-n-ne0.true {o = done_by c.take_some-here.result} c.take_some-here.ensures.0 c.take_some-here.ensures.1 refl) c.take_some-here.auto.output refl, c.loop-i.invariant.1, c.loop-i.invariant.2, c.loop-i.invariant.3, c.take_some-here.auto.output ∙ c.loop-i.invariant.4)
+loop-i-preserved-then-n-ne0 c = (getting_more c.loop-i.invariant.0 (got_more c.args.row.now c.args.terminators.now c.loop-i.output c.loop-i.i (state c.loop-i.here c.loop-i.lines c.loop-i.pages) c.loop-i.text c.loop-i.invariant.0.ready c.loop-i-test.true c.ready_length-n.ensures.room (omega arith) c.ready_length-n.ensures.most (omega arith) refl c.ready_length-n.ensures.plain c.if-n-ne0.true c.take_some-here.ensures.0 c.take_some-here.ensures.1) c.take_some-here.auto.output, c.loop-i.invariant.1, c.loop-i.invariant.2, c.loop-i.invariant.3, c.take_some-here.auto.output ∙ c.loop-i.invariant.4)
 
 pub turns-requires : goal.turns-requires
 turns-requires c = (here_small c.loop-i.invariant.0.ready.valid).0
@@ -43,47 +43,20 @@ loop-i-smaller-then-turns c = (getting_turn c.loop-i.invariant.0 c.loop-i-test.t
 pub loop-i-preserved-then-turns : goal.loop-i-preserved-then-turns
 loop-i-preserved-then-turns c = ((getting_turn c.loop-i.invariant.0 c.loop-i-test.true (sym c.turns.ensures ∙ c.if-turns.true) c.turned_reading-here.ensures).0, c.loop-i.invariant.1, c.loop-i.invariant.2, c.loop-i.invariant.3, c.loop-i.invariant.4)
 
-pub string_character-got-requires : goal.string_character-got-requires
-string_character-got-requires c = record { ready = c.loop-i.invariant.0.ready; row_good = c.requires.row_good }
-
-pub shape_of-output-then-not-goes_on : goal.shape_of-output-then-not-goes_on
-shape_of-output-then-not-goes_on c = c.loop-i.invariant.4
-
-pub shape_of-text-then-not-goes_on : goal.shape_of-text-then-not-goes_on
-shape_of-text-then-not-goes_on c = c.string_character-got.auto.text ∙ c.loop-i.invariant.1
-
-pub shape_of-lines-then-not-goes_on : goal.shape_of-lines-then-not-goes_on
-shape_of-lines-then-not-goes_on c = c.string_character-got.auto.lines ∙ c.loop-i.invariant.2
-
-pub shape_of-pages-then-not-goes_on : goal.shape_of-pages-then-not-goes_on
-shape_of-pages-then-not-goes_on c = c.string_character-got.auto.pages ∙ c.loop-i.invariant.3
-
-pub returns-then-not-goes_on : goal.returns-then-not-goes_on
-returns-then-not-goes_on c = getting_stops c.loop-i.invariant.0 (got_none c.args.row.now c.args.terminators.now c.loop-i.output c.loop-i.i (state c.loop-i.here c.loop-i.lines c.loop-i.pages) c.loop-i.text c.loop-i.invariant.0.ready c.loop-i-test.true c.string_character-got.result.byte c.string_character-got.result.outcome _ _ _ c.string_character-got.ensures (sym c.goes_on.ensures ∙ c.if-not-goes_on.true)) refl (sym c.goes_on.ensures ∙ c.if-not-goes_on.true)
+pub string_character-requires : goal.string_character-requires
+string_character-requires c = record { ready = c.loop-i.invariant.0.ready; row_good = c.requires.row_good }
 
 pub bounds-output-i : goal.bounds-output-i
 bounds-output-i c = omega (arith, c.loop-i-test.true)
 
-pub overflow_add-i-else-turns : goal.overflow_add-i-else-turns
-overflow_add-i-else-turns c = omega (arith, c.loop-i-test.true, c.loop-i.invariant.4, c.well_formed)
-
-pub loop-i-smaller : goal.loop-i-smaller
-loop-i-smaller c = (got_one c.args.row.now c.args.terminators.now c.loop-i.output c.loop-i.i (state c.loop-i.here c.loop-i.lines c.loop-i.pages) c.loop-i.text c.loop-i.invariant.0.ready c.loop-i-test.true c.string_character-got.result.byte c.string_character-got.result.outcome _ _ _ c.string_character-got.ensures (sym c.goes_on.ensures ∙ c.if-not-goes_on.false) refl).less (sym c.goes_on.ensures ∙ c.if-not-goes_on.false)
-
-pub loop-i-preserved : goal.loop-i-preserved
-loop-i-preserved c = (getting_more c.loop-i.invariant.0 (got_one c.args.row.now c.args.terminators.now c.loop-i.output c.loop-i.i (state c.loop-i.here c.loop-i.lines c.loop-i.pages) c.loop-i.text c.loop-i.invariant.0.ready c.loop-i-test.true c.string_character-got.result.byte c.string_character-got.result.outcome _ _ _ c.string_character-got.ensures (sym c.goes_on.ensures ∙ c.if-not-goes_on.false) refl) (length-set c.loop-i.output c.loop-i.i c.string_character-got.result.byte) (sym c.goes_on.ensures ∙ c.if-not-goes_on.false), c.string_character-got.auto.text ∙ c.loop-i.invariant.1, c.string_character-got.auto.lines ∙ c.loop-i.invariant.2, c.string_character-got.auto.pages ∙ c.loop-i.invariant.3, (length-set c.loop-i.output c.loop-i.i c.string_character-got.result.byte) ∙ c.loop-i.invariant.4)
-
-pub shape_of-output : goal.shape_of-output
-shape_of-output c = c.loop-i.invariant.4
-
-pub shape_of-text : goal.shape_of-text
-shape_of-text c = c.loop-i.invariant.1
-
-pub shape_of-lines : goal.shape_of-lines
-shape_of-lines c = c.loop-i.invariant.2
-
-pub shape_of-pages : goal.shape_of-pages
-shape_of-pages c = c.loop-i.invariant.3
-
 pub returns : goal.returns
 returns c = getting_full c.loop-i.invariant.0 (omega (arith, c.loop-i-test.false))
+
+pub returns-in-Err : goal.returns-in-Err
+returns-in-Err c = getting_ends c.loop-i.invariant.0 c.loop-i-test.true (gives_none c.string_character.ensures c.in-Err.is)
+
+pub loop-i-smaller : goal.loop-i-smaller
+loop-i-smaller c = (got_one c.args.row.now c.args.terminators.now c.loop-i.output c.loop-i.i (state c.loop-i.here c.loop-i.lines c.loop-i.pages) c.loop-i.text c.loop-i.invariant.0.ready c.loop-i-test.true (gives c.string_character.ensures c.in-Ok.is) refl).less
+
+pub loop-i-preserved : goal.loop-i-preserved
+loop-i-preserved c = (getting_more c.loop-i.invariant.0 (got_one c.args.row.now c.args.terminators.now c.loop-i.output c.loop-i.i (state c.loop-i.here c.loop-i.lines c.loop-i.pages) c.loop-i.text c.loop-i.invariant.0.ready c.loop-i-test.true (gives c.string_character.ensures c.in-Ok.is) refl) (length-set c.loop-i.output c.loop-i.i c.in-Ok.taken.value), c.string_character.auto.text ∙ c.loop-i.invariant.1, c.string_character.auto.lines ∙ c.loop-i.invariant.2, c.string_character.auto.pages ∙ c.loop-i.invariant.3, (length-set c.loop-i.output c.loop-i.i c.in-Ok.taken.value) ∙ c.loop-i.invariant.4)

@@ -1,14 +1,13 @@
 use mathlib.Core.Bool.{true}
 use Rattle.strings.proofs.Parts.{run_short, run_there}
-use Rattle.strings.proofs.Turned.{put_one, put_more, put_turn, put_goes, put_halts}
+use Rattle.strings.proofs.Turned.{put_one, put_ends, put_more, put_turn}
 use mathlib.Core.Path.{refl, sym, ◌∙◌}
 use native.Mathlib.Omega.{arith}
 use Rattle.rules.specs.Book.{state}
-use Rattle.rules.specs.Step.{done_by}
 use Rattle.rules.specs.Steps.{put_character}
 use Rattle.laws.proofs.Progress.{events_small}
 use Rattle.laws.proofs.Runs.{any_character}
-use Rattle.laws.proofs.Ways.{hands_on, outcome_is}
+use Rattle.laws.proofs.Ways.{hands_up, reached, halted}
 use Rattle.laws.proofs.Puts.{left_none}
 use Rattle.stores.proofs.Smalls.{here_small, end_small}
 use Rattle.strings.proofs.put_string.Goals as goal
@@ -26,10 +25,10 @@ pub overflow_add-i : goal.overflow_add-i
 overflow_add-i c = omega (arith, c.run_length-n.ensures.left, c.loop-i-test.true, c.well_formed)
 
 pub loop-i-smaller-then-n-ne0 : goal.loop-i-smaller-then-n-ne0
-loop-i-smaller-then-n-ne0 c = (put_more c.args.row.now c.args.bytes.now c.loop-i.i (state c.loop-i.here c.loop-i.lines c.loop-i.pages) c.loop-i.text c.loop-i.invariant.0.1 c.loop-i-test.true c.run_length-n.ensures.room (omega arith) c.run_length-n.ensures.left (omega arith) c.run_length-n.ensures.plain c.if-n-ne0.true refl {o = done_by c.store_some-here.result} c.store_some-here.ensures.0 c.store_some-here.ensures.1 refl).less refl
+loop-i-smaller-then-n-ne0 c = (put_more c.args.row.now c.args.bytes.now c.loop-i.i (state c.loop-i.here c.loop-i.lines c.loop-i.pages) c.loop-i.text c.loop-i.invariant.0.1 c.loop-i-test.true c.run_length-n.ensures.room (omega arith) c.run_length-n.ensures.left (omega arith) c.run_length-n.ensures.plain c.if-n-ne0.true refl c.store_some-here.ensures.0 c.store_some-here.ensures.1).less
 
 pub loop-i-preserved-then-n-ne0 : goal.loop-i-preserved-then-n-ne0
-loop-i-preserved-then-n-ne0 c = let y = (put_more c.args.row.now c.args.bytes.now c.loop-i.i (state c.loop-i.here c.loop-i.lines c.loop-i.pages) c.loop-i.text c.loop-i.invariant.0.1 c.loop-i-test.true c.run_length-n.ensures.room (omega arith) c.run_length-n.ensures.left (omega arith) c.run_length-n.ensures.plain c.if-n-ne0.true refl {o = done_by c.store_some-here.result} c.store_some-here.ensures.0 c.store_some-here.ensures.1 refl) in ((c.loop-i.invariant.0.0 ∙ put_goes y refl, y.ready refl, y.within), c.store_some-here.auto.text ∙ c.loop-i.invariant.1, c.store_some-here.auto.lines ∙ c.loop-i.invariant.2, c.store_some-here.auto.pages ∙ c.loop-i.invariant.3)
+loop-i-preserved-then-n-ne0 c = let y = (put_more c.args.row.now c.args.bytes.now c.loop-i.i (state c.loop-i.here c.loop-i.lines c.loop-i.pages) c.loop-i.text c.loop-i.invariant.0.1 c.loop-i-test.true c.run_length-n.ensures.room (omega arith) c.run_length-n.ensures.left (omega arith) c.run_length-n.ensures.plain c.if-n-ne0.true refl c.store_some-here.ensures.0 c.store_some-here.ensures.1) in ((c.loop-i.invariant.0.0 ∙ y.same, y.ready, y.within), c.store_some-here.auto.text ∙ c.loop-i.invariant.1, c.store_some-here.auto.lines ∙ c.loop-i.invariant.2, c.store_some-here.auto.pages ∙ c.loop-i.invariant.3)
 
 pub turns-requires : goal.turns-requires
 turns-requires c = (here_small c.loop-i.invariant.0.1.valid).0
@@ -46,38 +45,20 @@ loop-i-preserved-then-turns c = let y = (put_turn c.args.row.now c.args.bytes.no
 pub bounds-bytes-i : goal.bounds-bytes-i
 bounds-bytes-i c = omega (arith, c.loop-i-test.true)
 
-pub try_character-one-requires : goal.try_character-one-requires
-try_character-one-requires c = record { ready = any_character _ c.loop-i.invariant.0.1; row_good = c.requires.row_good }
-
-pub shape_of-text-then-not-goes_on : goal.shape_of-text-then-not-goes_on
-shape_of-text-then-not-goes_on c = c.try_character-one.auto.text ∙ c.loop-i.invariant.1
-
-pub shape_of-lines-then-not-goes_on : goal.shape_of-lines-then-not-goes_on
-shape_of-lines-then-not-goes_on c = c.try_character-one.auto.lines ∙ c.loop-i.invariant.2
-
-pub shape_of-pages-then-not-goes_on : goal.shape_of-pages-then-not-goes_on
-shape_of-pages-then-not-goes_on c = c.try_character-one.auto.pages ∙ c.loop-i.invariant.3
-
-pub returns-then-not-goes_on : goal.returns-then-not-goes_on
-returns-then-not-goes_on c = hands_on c.try_character-one.result (c.loop-i.invariant.0.0 ∙ put_halts (put_one c.args.row.now c.args.bytes.now c.loop-i.i (state c.loop-i.here c.loop-i.lines c.loop-i.pages) c.loop-i.text c.loop-i.invariant.0.1 c.loop-i-test.true refl c.try_character-one.result _ _ _ c.try_character-one.ensures) (sym c.goes_on.ensures ∙ c.if-not-goes_on.true)) (sym c.goes_on.ensures ∙ c.if-not-goes_on.true)
+pub try_character-requires : goal.try_character-requires
+try_character-requires c = record { ready = any_character _ c.loop-i.invariant.0.1; row_good = c.requires.row_good }
 
 pub overflow_add-i-else-turns : goal.overflow_add-i-else-turns
 overflow_add-i-else-turns c = omega (arith, c.loop-i-test.true, c.well_formed)
 
+pub returns-in_err-here : goal.returns-in_err-here
+returns-in_err-here c = hands_up _ c.from_residual.result c.from_residual.ensures.1 (c.loop-i.invariant.0.0 ∙ put_ends c.args.row.now c.args.bytes.now c.loop-i.i (state c.loop-i.here c.loop-i.lines c.loop-i.pages) c.loop-i.text c.loop-i.invariant.0.1 c.loop-i-test.true refl (halted c.try_character.ensures c.in_err-here.was))
+
 pub loop-i-smaller : goal.loop-i-smaller
-loop-i-smaller c = (put_one c.args.row.now c.args.bytes.now c.loop-i.i (state c.loop-i.here c.loop-i.lines c.loop-i.pages) c.loop-i.text c.loop-i.invariant.0.1 c.loop-i-test.true refl c.try_character-one.result _ _ _ c.try_character-one.ensures).less (sym c.goes_on.ensures ∙ c.if-not-goes_on.false)
+loop-i-smaller c = (put_one c.args.row.now c.args.bytes.now c.loop-i.i (state c.loop-i.here c.loop-i.lines c.loop-i.pages) c.loop-i.text c.loop-i.invariant.0.1 c.loop-i-test.true refl (reached c.try_character.ensures c.in_ok-here.was)).less
 
 pub loop-i-preserved : goal.loop-i-preserved
-loop-i-preserved c = let x = (put_one c.args.row.now c.args.bytes.now c.loop-i.i (state c.loop-i.here c.loop-i.lines c.loop-i.pages) c.loop-i.text c.loop-i.invariant.0.1 c.loop-i-test.true refl c.try_character-one.result _ _ _ c.try_character-one.ensures) in let g = (sym c.goes_on.ensures ∙ c.if-not-goes_on.false) in ((c.loop-i.invariant.0.0 ∙ put_goes x g, x.ready g, x.within), c.try_character-one.auto.text ∙ c.loop-i.invariant.1, c.try_character-one.auto.lines ∙ c.loop-i.invariant.2, c.try_character-one.auto.pages ∙ c.loop-i.invariant.3)
-
-pub shape_of-text : goal.shape_of-text
-shape_of-text c = c.loop-i.invariant.1
-
-pub shape_of-lines : goal.shape_of-lines
-shape_of-lines c = c.loop-i.invariant.2
-
-pub shape_of-pages : goal.shape_of-pages
-shape_of-pages c = c.loop-i.invariant.3
+loop-i-preserved c = let x = put_one c.args.row.now c.args.bytes.now c.loop-i.i (state c.loop-i.here c.loop-i.lines c.loop-i.pages) c.loop-i.text c.loop-i.invariant.0.1 c.loop-i-test.true refl (reached c.try_character.ensures c.in_ok-here.was) in ((c.loop-i.invariant.0.0 ∙ x.same, x.ready, x.within), c.try_character.auto.text ∙ c.loop-i.invariant.1, c.try_character.auto.lines ∙ c.loop-i.invariant.2, c.try_character.auto.pages ∙ c.loop-i.invariant.3)
 
 pub returns : goal.returns
-returns c = outcome_is (state c.loop-i.here c.loop-i.lines c.loop-i.pages) c.loop-i.text c.finish.ensures ∙ sym (c.loop-i.invariant.0.0 ∙ left_none c.args.row.now c.args.bytes.now true c.loop-i.i (state c.loop-i.here c.loop-i.lines c.loop-i.pages) c.loop-i.text c.loop-i.invariant.0.1 (omega (arith, c.loop-i-test.false)))
+returns c = sym (c.loop-i.invariant.0.0 ∙ left_none c.args.row.now c.args.bytes.now true c.loop-i.i (state c.loop-i.here c.loop-i.lines c.loop-i.pages) c.loop-i.text c.loop-i.invariant.0.1 (omega (arith, c.loop-i-test.false)))

@@ -11,4 +11,4 @@ pub character_index-at-requires : goal.character_index-at-requires
 character_index-at-requires c = let asked = here_small c.requires in record { small = asked.0; le_character = asked.1 }
 
 pub returns : goal.returns
-returns c = record { room = room_less c.room_here-room.ensures (omega (arith, c.least-most.ensures.0, c.ordinary_run.ensures.0)); most = omega (arith, c.least-most.ensures.1, c.ordinary_run.ensures.0); plain = ap (λ (j : ℕ). every (ordinary c.args.terminators.now) (take c.ordinary_run.result (drop j c.args.text.now))) (sym c.character_index-at.ensures.0) ∙ c.ordinary_run.ensures.1 }
+returns c = record { room = room_less c.room_here-room.ensures (omega (arith, c.min-most.ensures, c.ordinary_run.ensures.0)); most = omega (arith, c.min-most.ensures, c.ordinary_run.ensures.0); plain = ap (λ (j : ℕ). every (ordinary c.args.terminators.now) (take c.ordinary_run.result (drop j c.args.text.now))) (sym c.character_index-at.ensures.0) ∙ c.ordinary_run.ensures.1 }

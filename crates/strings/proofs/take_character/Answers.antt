@@ -1,17 +1,13 @@
-use Rattle.rules.specs.Book.{state}
-use mathlib.Core.Path.{sym, ap, ◌∙◌}
+use Rattle.rules.specs.Book.{state, on_run}
+use mathlib.Core.Path.{sym, ap, subst, ◌∙◌}
 use native.Mathlib.Omega.{arith}
-use Rattle.rules.specs.Step.{done_by}
-use mathlib.Core.Path.{subst}
 use mathlib.Core.Bool.{true}
 use Rattle.lines.proofs.Good.{good_facts}
 use Rattle.stores.proofs.Smalls.{here_small}
 use Rattle.rules.specs.Ready.{Ready}
-use Rattle.rules.specs.Step.{outcome_giving}
+use Rattle.rules.specs.Step.{done}
 use Rattle.rules.specs.Steps.{Action, execute, character_event}
-use Rattle.rules.specs.declared.Outcome.{Outcome}
 use Rattle.rules.specs.declared.Run.{Run}
-use Rattle.rules.specs.Book.{on_run}
 use Rattle.laws.proofs.Validity.{near_at}
 use Rattle.laws.proofs.Gets.{take-printable, take_event, passed_ready}
 use Rattle.strings.proofs.take_character.Goals as goal
@@ -19,11 +15,11 @@ use Rattle.strings.proofs.take_character.Goals as goal
 pub character_here-b-requires : goal.character_here-b-requires
 character_here-b-requires c = let asked = here_small c.requires.ready.valid in record { small = asked.0; le_character = asked.1 }
 
-pub overflow_add-run : goal.overflow_add-run
-overflow_add-run c = omega (arith, near_at c.requires.ready.valid)
+pub overflow_add-position : goal.overflow_add-position
+overflow_add-position c = omega (arith, near_at c.requires.ready.valid)
 
 pub returns-then-is_printable : goal.returns-then-is_printable
-returns-then-is_printable c = ap (λ (o : Outcome). outcome_giving c.character_here-b.result o c.args.text.now c.args.lines.now c.args.pages.now) (c.finish.ensures ∙ ap done_by c.moved-on.ensures) ∙ sym (take-printable c.args.row.now (state c.args.run c.args.lines.now c.args.pages.now) c.args.text.now c.character_here-b.ensures (sym c.is_printable.ensures ∙ c.if-is_printable.true))
+returns-then-is_printable c = ap (λ (r : Run). done c.character_here-b.result (state r c.args.lines.now c.args.pages.now) c.args.text.now) c.moved-on.ensures ∙ sym (take-printable c.args.row.now (state c.args.run c.args.lines.now c.args.pages.now) c.args.text.now c.character_here-b.ensures (sym c.is_printable.ensures ∙ c.if-is_printable.true))
 
 pub character_event-requires : goal.character_event-requires
 character_event-requires c = record { ready = subst (λ (r : Run). Ready c.args.row.now Action.pass_blanks (on_run (state c.args.run c.args.lines.now c.args.pages.now) r)) (sym c.moved-on.ensures) (passed_ready _ Action.pass_blanks (state c.args.run c.args.lines.now c.args.pages.now) c.requires.ready (good_facts true (state c.args.run c.args.lines.now c.args.pages.now) c.requires.line_is_good)); row_good = c.requires.row_good }

@@ -9,17 +9,5 @@ overflow_add-size c = omega (arith, c.sign_count.ensures, c.digit_count.ensures,
 pub returns-then-width-size : goal.returns-then-width-size
 returns-then-width-size c = starred c.args.output.now c.args.at c.args.width c.args.plus c.args.negative c.args.n c.sign_count.ensures c.digit_count.ensures c.if-width-size.true c.fill.ensures
 
-pub put_digits-first-requires : goal.put_digits-first-requires
-put_digits-first-requires c = omega (arith, c.digit_count.ensures, c.if-width-size.false)
-
-pub put_sign-start-requires : goal.put_sign-start-requires
-put_sign-start-requires c = omega (arith, c.put_digits-first.ensures.0, c.sign_count.ensures, c.digit_count.ensures, c.if-width-size.false)
-
-pub overflow_sub-start : goal.overflow_sub-start
-overflow_sub-start c = omega (arith, c.put_digits-first.ensures.0, c.put_sign-start.ensures.0, c.sign_count.ensures, c.digit_count.ensures, c.if-width-size.false)
-
-pub fill-requires-2 : goal.fill-requires-2
-fill-requires-2 c = omega (arith, c.put_digits-first.ensures.0, c.put_sign-start.ensures.0, c.sign_count.ensures, c.digit_count.ensures, c.if-width-size.false, c.requires)
-
 pub returns : goal.returns
 returns c = made c.args.output.now c.args.at c.args.width c.args.plus c.args.negative c.args.n c.sign_count.ensures c.digit_count.ensures c.if-width-size.false c.put_sign-start.result c.put_digits-first.ensures c.put_sign-start.ensures c.fill-2.ensures

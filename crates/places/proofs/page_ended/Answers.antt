@@ -1,7 +1,0 @@
-use mathlib.Core.Path.{ap}
-use Prim.Native.Nat.{ℕ}
-use lib.Dec.{ltb}
-use Rattle.places.proofs.page_ended.Goals as goal
-
-pub returns : goal.returns
-returns c = ap (λ (n : ℕ). ltb n c.args.run.file.position.line) c.page_length.ensures.0

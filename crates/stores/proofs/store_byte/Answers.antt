@@ -1,6 +1,0 @@
-use lib.Seq.{set_out}
-use mathlib.Core.Path.{sym}
-use Rattle.stores.proofs.store_byte.Goals as goal
-
-pub returns-else-i-bytes : goal.returns-else-i-bytes
-returns-else-i-bytes c = sym (set_out c.args.bytes.now c.args.i c.args.b c.if-i-bytes.false)

@@ -1,0 +1,5 @@
+use mathlib.Core.Path.{◌∙◌}
+use Rattle.transput.proofs.transput_get_string.Goals as goal
+
+pub returns : goal.returns
+returns c = c.leave.ensures.reads _ _ _ _ ∙ c.get_string.ensures
