@@ -1,8 +1,8 @@
 // The line that a call writes.
 #![tactic(auto)]
 
-ghost use Rattle.std.specs.Prelude.{◌≡◌, IfOk, IfErr, IsNone};
-ghost use Rattle.rules.specs.declared.Ending.TheVariants.{Refused};
+ghost use Rattle.std.specs.Prelude.{◌≡◌};
+ghost use Rattle.shows.specs.Lines.{refusal_of, quiet_reply};
 
 use console::Hex;
 use rules::{Ending, Event, File, Given, Position, Refusal, Reply};
@@ -10,7 +10,7 @@ use std::fmt;
 
 // Why a call is refused; none where it is done or stopped.
 pub fn refusal_of(given: Result<Given, Ending>) -> Option<Refusal>
-    ensures { IfOk given (λ _. IsNone result) }
+    ensures { result ≡ refusal_of given }
 {
     match given {
         Err(Ending::Refused(refusal) | Ending::RefusedAt(_, refusal)) => Some(refusal),
@@ -20,22 +20,19 @@ pub fn refusal_of(given: Result<Given, Ending>) -> Option<Refusal>
 
 // The reply of a call that signals nothing and leaves the record: a view, whole, or a comparison. It counts, or is refused.
 pub fn quiet_reply(file: File, end: Position, counted: Result<usize, Refusal>) -> Reply
-    ensures file { result.file ≡ file }
-    ensures end { result.end ≡ end }
-    ensures count { IfOk counted (λ count. result.count ≡ count) }
-    ensures no_count { IfErr counted (λ _. result.count ≡ 0) }
-    ensures refused { IfErr counted (λ refusal. result.given ≡ Err (Refused refusal)) }
+    ensures { result ≡ quiet_reply file end counted }
 {
+    let (count, given) = match counted {
+        Ok(count) => (count, Ok(Given::Nothing)),
+        Err(refusal) => (0, Err(Ending::Refused(refusal))),
+    };
     Reply {
         file,
         end,
         events: 0,
         taken: 0,
-        count: counted.unwrap_or(0),
-        given: match counted {
-            Ok(_) => Ok(Given::Nothing),
-            Err(refusal) => Err(Ending::Refused(refusal)),
-        },
+        count,
+        given,
     }
 }
 
