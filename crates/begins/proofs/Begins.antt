@@ -19,7 +19,7 @@ use Rattle.rules.specs.declared.Given.{Given}
 use Rattle.rules.specs.declared.Reply.{Reply}
 use Rattle.rules.specs.declared.Given.TheVariants.{Nothing, Character, Integer}
 use Rattle.rules.specs.Book.{choose, State, state, on_run, run_with, in_mood, rights_of, row_fits, all_fits}
-use Rattle.rules.specs.Step.{Outcome, ended_by, refusal_number, Ending, Out, done, ends, Step, ◌>>=◌, ◌>>◌, and_then, pure, refusal, need, size, halt, again, mood_on, outcome, done_by, refused_by}
+use Rattle.rules.specs.Step.{Outcome, ended_by, refusal_number, Out, done, ends, Step, ◌>>=◌, ◌>>◌, and_then, pure, refusal, need, size, halt, again, mood_on, outcome, done_by, refused_by}
 use Rattle.rules.specs.Steps.{Action}
 use Rattle.rules.specs.Ready.{Ready}
 use Rattle.rules.specs.Calls.{Value, nothing, value_of, begin, need_row, turnable, putting, getting, leave, after}

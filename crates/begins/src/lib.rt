@@ -2,48 +2,33 @@
 #![tactic(auto)]
 
 ghost use Rattle.std.specs.Prelude.{◌≡◌, length};
-ghost use Rattle.rules.specs.Book.{state};
+ghost use Rattle.places.specs.Lent.{state_over};
 ghost use Rattle.entry.specs.Before.{before_asking};
 ghost use Rattle.begins.specs.Begin.{asked_as, prepared_by, in_mood_by, may_set_by, lowest_by};
 
+use places::BookMut;
 use rules::{EndedCall, Outcome, Refusal, Run};
 
 // The tests before work: the first that fails ends the call.
-pub fn asked(
-    run: Run,
-    text: &[u8],
-    lines: &[u8],
-    pages: &[u8],
-    row: &[u32],
-) -> Result<(), EndedCall>
-    ensures { result ≡ asked_as run (before_asking row.now (length text.now) (state run lines.now pages.now)) }
+pub fn asked(run: Run, book: &BookMut, row: &[u32]) -> Result<(), EndedCall>
+    ensures { result ≡ asked_as run (before_asking row.now (length book.now.text.now) (state_over run book.now)) }
 {
-    match entry::test_call(run, text, lines, pages, row) {
-        Ok(()) => Ok(()),
-        Err(refusal) => Err(running::refused(run, refusal)),
-    }
+    entry::test_call(run, &book.shared(), row).map_err(|refusal| running::refused(run, refusal))
 }
 
 // A get or a put: 4 without its right, 5 against a mood that cannot turn; then the mood is turned.
-pub fn prepared(
-    run: Run,
-    reading: bool,
-    text: &[u8],
-    lines: &[u8],
-    pages: &[u8],
-    row: &[u32],
-) -> Outcome
-    ensures { result ≡ prepared_by row.now reading (length text.now) (state run lines.now pages.now) }
+pub fn prepared(run: Run, reading: bool, book: &BookMut, row: &[u32]) -> Outcome
+    ensures { result ≡ prepared_by row.now reading (length book.now.text.now) (state_over run book.now) }
 {
-    asked(run, text, lines, pages, row)?;
+    asked(run, book, row)?;
     entry::turned(run, reading)
 }
 
 // "Space, newline, newpage and set char number need a mood": 5 without one.
-pub fn in_mood(run: Run, text: &[u8], lines: &[u8], pages: &[u8], row: &[u32]) -> Outcome
-    ensures { result ≡ in_mood_by row.now (length text.now) (state run lines.now pages.now) }
+pub fn in_mood(run: Run, book: &BookMut, row: &[u32]) -> Outcome
+    ensures { result ≡ in_mood_by row.now (length book.now.text.now) (state_over run book.now) }
 {
-    asked(run, text, lines, pages, row)?;
+    asked(run, book, row)?;
     if run.file.reading || run.file.writing {
         Ok(run)
     } else {
@@ -52,10 +37,10 @@ pub fn in_mood(run: Run, text: &[u8], lines: &[u8], pages: &[u8], row: &[u32]) -
 }
 
 // Set: 4 without its right.
-pub fn may_set(run: Run, text: &[u8], lines: &[u8], pages: &[u8], row: &[u32]) -> Outcome
-    ensures { result ≡ may_set_by row.now (length text.now) (state run lines.now pages.now) }
+pub fn may_set(run: Run, book: &BookMut, row: &[u32]) -> Outcome
+    ensures { result ≡ may_set_by row.now (length book.now.text.now) (state_over run book.now) }
 {
-    asked(run, text, lines, pages, row)?;
+    asked(run, book, row)?;
     if run.file.rights.set {
         Ok(run)
     } else {
@@ -64,9 +49,9 @@ pub fn may_set(run: Run, text: &[u8], lines: &[u8], pages: &[u8], row: &[u32]) -
 }
 
 // A put of -2147483648: 9, where no earlier test failed.
-pub fn lowest(run: Run, text: &[u8], lines: &[u8], pages: &[u8], row: &[u32]) -> Outcome
-    ensures { result ≡ lowest_by row.now (length text.now) (state run lines.now pages.now) }
+pub fn lowest(run: Run, book: &BookMut, row: &[u32]) -> Outcome
+    ensures { result ≡ lowest_by row.now (length book.now.text.now) (state_over run book.now) }
 {
-    asked(run, text, lines, pages, row)?;
+    asked(run, book, row)?;
     Err(running::refused(run, Refusal::TooLarge))
 }

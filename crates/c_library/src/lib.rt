@@ -10,6 +10,7 @@ ghost use Rattle.differences.specs.Compare.{answer, compared, differ, difference
 
 use differs::Differences;
 use numbers::CallResult;
+use places::{BookMut, BookRef};
 use rules::{File, Position};
 use views::ViewPlace;
 use whole::Wrote;
@@ -39,7 +40,7 @@ pub extern "C" fn transput_open(
 ) -> CallResult
     ensures { after_numbers file.new result [] text.now lines.now pages.now ≡ call (plain opens) file.old (book text.now lines.now pages.now end) }
 {
-    transput::transput_open(file, end, text, lines, pages)
+    transput::transput_open(file, end, &BookRef { text, lines, pages })
 }
 
 // Closes the record.
@@ -53,7 +54,7 @@ pub extern "C" fn transput_close(
 ) -> CallResult
     ensures { after_numbers file.new result [] text.now lines.now pages.now ≡ call (plain closes) file.old (book text.now lines.now pages.now end) }
 {
-    transput::transput_close(file, end, text, lines, pages)
+    transput::transput_close(file, end, &BookRef { text, lines, pages })
 }
 
 // Chooses what becomes of a string that does not fit on its line: the Report's split, or refusal 16.
@@ -68,7 +69,7 @@ pub extern "C" fn transput_choose(
 ) -> CallResult
     ensures { after_numbers file.new result [] text.now lines.now pages.now ≡ call (plain (chooses split)) file.old (book text.now lines.now pages.now end) }
 {
-    transput::transput_choose(file, end, split, text, lines, pages)
+    transput::transput_choose(file, end, split, &BookRef { text, lines, pages })
 }
 
 // Resets the record: its moods by its rights, at (1,1,1).
@@ -82,7 +83,7 @@ pub extern "C" fn transput_reset(
 ) -> CallResult
     ensures { after_numbers file.new result [] text.now lines.now pages.now ≡ call (plain resets) file.old (book text.now lines.now pages.now end) }
 {
-    transput::transput_reset(file, end, text, lines, pages)
+    transput::transput_reset(file, end, &BookRef { text, lines, pages })
 }
 
 // Backspaces: one character back on the line.
@@ -96,7 +97,7 @@ pub extern "C" fn transput_backspace(
 ) -> CallResult
     ensures { after_numbers file.new result [] text.now lines.now pages.now ≡ call (plain backspaces) file.old (book text.now lines.now pages.now end) }
 {
-    transput::transput_backspace(file, end, text, lines, pages)
+    transput::transput_backspace(file, end, &BookRef { text, lines, pages })
 }
 
 // Puts a character.
@@ -112,7 +113,7 @@ pub extern "C" fn transput_put_character(
 ) -> CallResult
     ensures { after_numbers file.new result [] text.new lines.new pages.new ≡ call (asking (puts_character b) row.now) file.old (book text.old lines.old pages.old end) }
 {
-    transput::transput_put_character(file, end, b, text, lines, pages, row)
+    transput::transput_put_character(file, end, b, &mut BookMut { text, lines, pages }, row)
 }
 
 // Puts the characters of a string in turn.
@@ -128,7 +129,7 @@ pub extern "C" fn transput_put_string(
 ) -> CallResult
     ensures { after_numbers file.new result [] text.new lines.new pages.new ≡ call (asking (puts_string bytes.now) row.now) file.old (book text.old lines.old pages.old end) }
 {
-    transput::transput_put_string(file, end, bytes, text, lines, pages, row)
+    transput::transput_put_string(file, end, bytes, &mut BookMut { text, lines, pages }, row)
 }
 
 // Puts an integer: a blank where the line has begun, then whole(v, 11).
@@ -144,7 +145,7 @@ pub extern "C" fn transput_put_integer(
 ) -> CallResult
     ensures { after_numbers file.new result [] text.new lines.new pages.new ≡ call (asking (puts_integer v) row.now) file.old (book text.old lines.old pages.old end) }
 {
-    transput::transput_put_integer(file, end, v, text, lines, pages, row)
+    transput::transput_put_integer(file, end, v, &mut BookMut { text, lines, pages }, row)
 }
 
 // Gets a character.
@@ -159,7 +160,7 @@ pub extern "C" fn transput_get_character(
 ) -> CallResult
     ensures { after_numbers file.new result [] text.new lines.new pages.new ≡ call (asking gets_character row.now) file.old (book text.old lines.old pages.old end) }
 {
-    transput::transput_get_character(file, end, text, lines, pages, row)
+    transput::transput_get_character(file, end, &mut BookMut { text, lines, pages }, row)
 }
 
 // Gets a string into the lent output.
@@ -176,7 +177,14 @@ pub extern "C" fn transput_get_string(
 ) -> CallResult
     ensures { after_numbers file.new result output.new text.new lines.new pages.new ≡ call (asking (gets_string terminators.now output.old) row.now) file.old (book text.old lines.old pages.old end) }
 {
-    transput::transput_get_string(file, end, terminators, output, text, lines, pages, row)
+    transput::transput_get_string(
+        file,
+        end,
+        terminators,
+        output,
+        &mut BookMut { text, lines, pages },
+        row,
+    )
 }
 
 // Gets an integer.
@@ -191,7 +199,7 @@ pub extern "C" fn transput_get_integer(
 ) -> CallResult
     ensures { after_numbers file.new result [] text.new lines.new pages.new ≡ call (asking gets_integer row.now) file.old (book text.old lines.old pages.old end) }
 {
-    transput::transput_get_integer(file, end, text, lines, pages, row)
+    transput::transput_get_integer(file, end, &mut BookMut { text, lines, pages }, row)
 }
 
 // Space: past a character, reading; a blank put, writing past the end of what is written.
@@ -206,7 +214,7 @@ pub extern "C" fn transput_space(
 ) -> CallResult
     ensures { after_numbers file.new result [] text.new lines.new pages.new ≡ call (asking spaces row.now) file.old (book text.old lines.old pages.old end) }
 {
-    transput::transput_space(file, end, text, lines, pages, row)
+    transput::transput_space(file, end, &mut BookMut { text, lines, pages }, row)
 }
 
 // Newline: to the start of the next line.
@@ -221,7 +229,7 @@ pub extern "C" fn transput_newline(
 ) -> CallResult
     ensures { after_numbers file.new result [] text.new lines.new pages.new ≡ call (asking newlines row.now) file.old (book text.old lines.old pages.old end) }
 {
-    transput::transput_newline(file, end, text, lines, pages, row)
+    transput::transput_newline(file, end, &mut BookMut { text, lines, pages }, row)
 }
 
 // Newpage: to the start of the next page.
@@ -236,7 +244,7 @@ pub extern "C" fn transput_newpage(
 ) -> CallResult
     ensures { after_numbers file.new result [] text.new lines.new pages.new ≡ call (asking newpages row.now) file.old (book text.old lines.old pages.old end) }
 {
-    transput::transput_newpage(file, end, text, lines, pages, row)
+    transput::transput_newpage(file, end, &mut BookMut { text, lines, pages }, row)
 }
 
 // Set: to a place in the book.
@@ -252,7 +260,7 @@ pub extern "C" fn transput_set(
 ) -> CallResult
     ensures { after_numbers file.new result [] text.new lines.new pages.new ≡ call (asking (sets to) row.now) file.old (book text.old lines.old pages.old end) }
 {
-    transput::transput_set(file, end, to, text, lines, pages, row)
+    transput::transput_set(file, end, to, &mut BookMut { text, lines, pages }, row)
 }
 
 // Set char number: to a place on the line.
@@ -268,7 +276,7 @@ pub extern "C" fn transput_set_character_number(
 ) -> CallResult
     ensures { after_numbers file.new result [] text.new lines.new pages.new ≡ call (asking (sets_character_number n) row.now) file.old (book text.old lines.old pages.old end) }
 {
-    transput::transput_set_character_number(file, end, n, text, lines, pages, row)
+    transput::transput_set_character_number(file, end, n, &mut BookMut { text, lines, pages }, row)
 }
 
 // The number of a line view, asked for apart.
@@ -284,7 +292,7 @@ pub extern "C" fn transput_view_number(
 ) -> CallResult
     ensures { after_numbers file.now result [] text.now lines.now pages.now ≡ call (plain (view_numbers page line)) file.now (book text.now lines.now pages.now end) }
 {
-    transput::transput_view_number(file, end, page, line, text, lines, pages)
+    transput::transput_view_number(file, end, page, line, &BookRef { text, lines, pages })
 }
 
 // The line view in numbers: where it lies, in the text or in the marker text.
@@ -301,7 +309,14 @@ pub extern "C" fn transput_line_view(
 ) -> ViewPlace
     ensures { Viewed page line marker.now file.now (book text.now lines.now pages.now end) result }
 {
-    transput::transput_line_view(file, end, page, line, text, lines, pages, marker)
+    transput::transput_line_view(
+        file,
+        end,
+        page,
+        line,
+        &BookRef { text, lines, pages },
+        marker,
+    )
 }
 
 // The spans on which the shown texts of two books differ, written to a lent list, four bytes a span.
@@ -325,13 +340,13 @@ pub extern "C" fn transput_differ(
         file,
         other_file,
         end,
-        text,
-        lines,
-        pages,
+        &BookRef { text, lines, pages },
         other_end,
-        other_text,
-        other_lines,
-        other_pages,
+        &BookRef {
+            text: other_text,
+            lines: other_lines,
+            pages: other_pages,
+        },
         list,
     )
 }
@@ -356,13 +371,13 @@ pub extern "C" fn transput_difference_count(
         file,
         other_file,
         end,
-        text,
-        lines,
-        pages,
+        &BookRef { text, lines, pages },
         other_end,
-        other_text,
-        other_lines,
-        other_pages,
+        &BookRef {
+            text: other_text,
+            lines: other_lines,
+            pages: other_pages,
+        },
     )
 }
 

@@ -1,7 +1,7 @@
 // Tests of characters, one and many: printable ones, terminators, and runs of those that signal nothing.
 #![tactic(auto)]
 
-ghost use Rattle.std.specs.Prelude.{◌≡◌, true, ◌-◌, ◌≤◌, length, take, drop};
+ghost use Rattle.std.specs.Prelude.{◌≡◌, true, ◌≤◌, length, take};
 ghost use Rattle.rules.specs.Steps.{printable};
 ghost use Rattle.rules.specs.Calls.{one_of};
 ghost use Rattle.laws.specs.Runs.{every, ordinary};
@@ -95,28 +95,4 @@ pub fn leading_ordinary(bytes: &[u8], terminators: &[u8]) -> usize
         .iter()
         .position(|b| !is_ordinary(*b, terminators))
         .unwrap_or(bytes.len())
-}
-
-// How many bytes from an index on are printable, of at most a limit.
-#[tactic(auto, unfolding(laws::specs::Runs::every))]
-pub fn printable_run(bytes: &[u8], from: usize, limit: usize) -> usize
-    requires { limit ≤ length bytes.now - from }
-    ensures { (result ≤ limit) × (every printable (take result (drop from bytes.now)) ≡ true) }
-{
-    match bytes.get(from..from + limit) {
-        Some(part) => leading_printable(part),
-        None => 0,
-    }
-}
-
-// How many bytes from an index on are ordinary, of at most a limit.
-#[tactic(auto, unfolding(laws::specs::Runs::every))]
-pub fn ordinary_run(bytes: &[u8], from: usize, limit: usize, terminators: &[u8]) -> usize
-    requires { limit ≤ length bytes.now - from }
-    ensures { (result ≤ limit) × (every (ordinary terminators.now) (take result (drop from bytes.now)) ≡ true) }
-{
-    match bytes.get(from..from + limit) {
-        Some(part) => leading_ordinary(part, terminators),
-        None => 0,
-    }
 }

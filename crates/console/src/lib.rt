@@ -33,7 +33,7 @@ impl fmt::Display for Hex<'_> {
     }
 }
 
-// What was written into a buffer of fixed size since its position was last set to 0.
+// What was written into a buffer of fixed size since its position was last set to 0. The library has no From<u64> for usize.
 pub fn written<const N: usize>(buffer: &io::Cursor<[u8; N]>) -> &[u8]
     ensures { length result.now ≤ N }
 {

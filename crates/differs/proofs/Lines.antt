@@ -43,28 +43,28 @@ some_shown p l s {x} e = by (shown p l s) e
 
 module _ (p l : ℕ) (b : CheckedBook) where
   abbrev line_here : Line
-  line_here = line_at p l (state_of b) b.text.now
+  line_here = line_at p l (state_of b) b.book.text.now
 
   pub line_hidden : line_or_none p l (state_of b) ≡ None → hidden ≡ line_here
   unfolding line_at
   line_hidden e = rw (none_shown p l (state_of b) e)
 
   module _ {x : Span} (e : line_or_none p l (state_of b) ≡ Some x) where
-    pub line_in : (x.from + x.count ≤ length b.text.now) × (length b.text.now ≤ 65536) × (x.count ≤ 255)
+    pub line_in : (x.from + x.count ≤ length b.book.text.now) × (length b.book.text.now ≤ 65536) × (x.count ≤ 255)
     line_in =
         let s = state_of b in
-        let n = length b.text.now in
+        let n = length b.book.text.now in
         let f = checked_facts b in
         let o = some_shown p l s e in
         subst (λ (y : Span). (y.from + y.count ≤ n) × (n ≤ 65536) × (y.count ≤ 255)) (sym o.1)
         (shown_in_text p l n s f o.0, omega (arith, f.sizes.text, f.legal_shape.all_characters), omega (arith, shown-length_le p l n s f o.0, f.valid.characters_high))
 
-    pub line_showing : showing (take (x.from + x.count - x.from) (drop x.from b.text.now)) ≡ line_here
+    pub line_showing : showing (take (x.from + x.count - x.from) (drop x.from b.book.text.now)) ≡ line_here
     unfolding line_at shown_text
     line_showing =
         let o = some_shown p l (state_of b) e in
-        ap showing (part_as x.from x.count b.text.now) ∙ ap (λ (y : Span). showing (take y.count (drop y.from b.text.now))) o.1
-        ∙ sym (ap (λ (c : Bool). choose c (showing (shown_text p l (state_of b) b.text.now)) hidden) o.0)
+        ap showing (part_as x.from x.count b.book.text.now) ∙ ap (λ (y : Span). showing (take y.count (drop y.from b.book.text.now))) o.1
+        ∙ sym (ap (λ (c : Bool). choose c (showing (shown_text p l (state_of b) b.book.text.now)) hidden) o.0)
 
 -- ---- the spans of a line
 

@@ -20,13 +20,13 @@ both (Err n) (Err m) = Err (choose (eqb (refusal_number m) 1) NotOpen n)
 
 -- the spans of a line, of a page, and of the books
 abbrev pub line_spans_of : Books → ℕ → ℕ → List Span
-line_spans_of b p l = line_spans p l (line_at p l (state_of b.first) b.first.text.now) (line_at p l (state_of b.second) b.second.text.now)
+line_spans_of b p l = line_spans p l (line_at p l (state_of b.first) b.first.book.text.now) (line_at p l (state_of b.second) b.second.book.text.now)
 
 abbrev pub page_spans_of : Books → ℕ → List Span
-page_spans_of b p = page_spans p (state_of b.first) b.first.text.now (state_of b.second) b.second.text.now
+page_spans_of b p = page_spans p (state_of b.first) b.first.book.text.now (state_of b.second) b.second.book.text.now
 
 abbrev pub spans_of : Books → List Span
-spans_of b = spans (state_of b.first) b.first.text.now (state_of b.second) b.second.text.now
+spans_of b = spans (state_of b.first) b.first.book.text.now (state_of b.second) b.second.book.text.now
 
 -- a count or a refusal as an answer, with the list as it is left
 abbrev pub answer_of : Result ℕ Refusal → List ℕ → Answer

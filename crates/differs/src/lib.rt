@@ -1,14 +1,15 @@
 // Where two books differ: the spans of the shown texts, counted and listed. Each call answers every record, book and list.
 #![tactic(auto)]
 
-ghost use Rattle.std.specs.Prelude.{◌≡◌, true, [], ◌∷◌, ◌+◌, ◌≤◌, ◌^◌, max, length, IfSome};
-ghost use Rattle.rules.specs.Calls.{book};
+ghost use Rattle.std.specs.Prelude.{◌≡◌, true, [], ◌∷◌, ◌≤◌, ◌^◌, max, length, IfSome};
+ghost use Rattle.places.specs.Lent.{shared_book};
 ghost use Rattle.views.specs.Checked.{state_of};
 ghost use Rattle.differences.specs.Spans.{place_differs, span, runs, line_at};
 ghost use Rattle.differences.specs.Compare.{answer, compared, differ, difference_count};
 ghost use Rattle.differs.specs.Tally.{tally, walked, Bytes, Stretch, Noted, line_of};
 ghost use Rattle.differs.specs.Books.{both, line_spans_of, page_spans_of, spans_of, answer_of, listed_or_short, differences_of};
 
+use places::BookRef;
 use rules::{File, Position, Refusal};
 use views::CheckedBook;
 
@@ -42,7 +43,8 @@ pub struct Tally<'a> {
 }
 
 impl Tally<'_> {
-    // One span more: counted, and written where the list has room for it.
+    // One span more: counted, and written where the list has room for it. Its numbers are bytes: `try_from` would add arms that no call
+    // reaches.
     pub fn note(&mut self, page: usize, line: usize, first: usize, last: usize)
         requires count_bound { self.old.count ≤ 2 ^ 30 }
         requires bytes { Bytes (span page line first last) }
@@ -83,12 +85,12 @@ impl Tally<'_> {
 
 // The characters of a line, if the book shows it.
 #[tactic(auto, using(crate::proofs::Lines::line_in))]
-pub fn shown_line<'a>(book: &CheckedBook<'a>, page: usize, line: usize) -> Option<&'a [u8]>
-    ensures line { line_of result ≡ line_at page line (state_of book.now) book.now.text.now }
+pub fn shown_line<'a>(checked: &CheckedBook<'a>, page: usize, line: usize) -> Option<&'a [u8]>
+    ensures line { line_of result ≡ line_at page line (state_of checked.now) checked.now.book.text.now }
     ensures short { IfSome result (λ xs. length xs.now ≤ 255) }
 {
-    let span = book.line_span(page, line)?;
-    Some(&book.text[span.from..span.from + span.count])
+    let span = checked.line_span(page, line)?;
+    Some(&checked.book.text[span.from..span.from + span.count])
 }
 
 // Two books that may be compared.
@@ -204,49 +206,41 @@ impl From<Result<usize, Refusal>> for Differences {
     }
 }
 
-// How many spans there are. The parameters are those of the C interface.
+// How many spans there are. The parameters come in the order of the C interface.
 pub fn difference_count(
     file: File,
     other_file: File,
     end: Position,
-    text: &[u8],
-    lines: &[u8],
-    pages: &[u8],
+    book: &BookRef,
     other_end: Position,
-    other_text: &[u8],
-    other_lines: &[u8],
-    other_pages: &[u8],
+    other_book: &BookRef,
 ) -> Differences
-    ensures { compared (book text.now lines.now pages.now end) (book other_text.now other_lines.now other_pages.now other_end) (answer result.number result.count []) ≡ difference_count file (book text.now lines.now pages.now end) other_file (book other_text.now other_lines.now other_pages.now other_end) }
+    ensures { compared (shared_book book.now end) (shared_book other_book.now other_end) (answer result.number result.count []) ≡ difference_count file (shared_book book.now end) other_file (shared_book other_book.now other_end) }
 {
     let run = entry::start(file, end);
     let other = entry::start(other_file, other_end);
-    let first = CheckedBook::check(run, text, lines, pages);
-    let second = CheckedBook::check(other, other_text, other_lines, other_pages);
+    let first = CheckedBook::check(run, *book);
+    let second = CheckedBook::check(other, *other_book);
     let counted = Books::both(first, second).map(|books| books.count());
     Differences::from(counted)
 }
 
-// The list of the spans. The parameters are those of the C interface, with the list that is lent.
+// The list of the spans. The parameters come in the order of the C interface, with the list that is lent.
 pub fn differ(
     file: File,
     other_file: File,
     end: Position,
-    text: &[u8],
-    lines: &[u8],
-    pages: &[u8],
+    book: &BookRef,
     other_end: Position,
-    other_text: &[u8],
-    other_lines: &[u8],
-    other_pages: &[u8],
+    other_book: &BookRef,
     list: &mut [u8],
 ) -> Differences
-    ensures { compared (book text.now lines.now pages.now end) (book other_text.now other_lines.now other_pages.now other_end) (answer result.number result.count list.new) ≡ differ file (book text.now lines.now pages.now end) other_file (book other_text.now other_lines.now other_pages.now other_end) list.old }
+    ensures { compared (shared_book book.now end) (shared_book other_book.now other_end) (answer result.number result.count list.new) ≡ differ file (shared_book book.now end) other_file (shared_book other_book.now other_end) list.old }
 {
     let run = entry::start(file, end);
     let other = entry::start(other_file, other_end);
-    let first = CheckedBook::check(run, text, lines, pages);
-    let second = CheckedBook::check(other, other_text, other_lines, other_pages);
+    let first = CheckedBook::check(run, *book);
+    let second = CheckedBook::check(other, *other_book);
     let listed = match Books::both(first, second) {
         Ok(books) => books.list(list),
         Err(refusal) => Err(refusal),

@@ -6,6 +6,7 @@ ghost use Rattle.rules.specs.Book.{state, lengths, run_with, before, legal, all_
 ghost use Rattle.entry.specs.Sound.{flags_fit, sound, Lent, places_on, memory_tested, places_tested};
 ghost use Rattle.entry.specs.Before.{sizes_are, before_work, before_asking, may_do, turnable_by, turned_by, reply_of, refused_reply, given_reply, ended_reply};
 
+use places::BookRef;
 use rules::{
     EndedCall, Ending, File, Given, Outcome, Position, Refusal, Reply, Rights, Run, Shape, Taken,
 };
@@ -106,63 +107,63 @@ pub fn moods_fit(file: File) -> bool
 }
 
 // What establish looks at.
-pub fn shape_fits(run: Run, text: &[u8], lines: &[u8], pages: &[u8]) -> bool
-    ensures { result ≡ shape_fits (length text.now) (state run lines.now pages.now) }
+pub fn shape_fits(run: Run, book: &BookRef) -> bool
+    ensures { result ≡ shape_fits (length book.now.text.now) (state run book.now.lines.now book.now.pages.now) }
 {
     let shape = run.file.shape;
     let rights = run.file.rights;
     if !is_legal(shape) {
         return false;
     }
-    if !sizes_fit(shape, text.len(), lines.len(), pages.len()) {
+    if !sizes_fit(shape, book.text.len(), book.lines.len(), book.pages.len()) {
         return false;
     }
     has_right(rights)
 }
 
 // Whether every lent length is at most what the shape allows.
-pub fn lengths_fit(shape: Shape, lines: &[u8], pages: &[u8]) -> bool
-    ensures { result ≡ lengths_fit shape (lengths lines.now pages.now) }
+pub fn lengths_fit(shape: Shape, book: &BookRef) -> bool
+    ensures { result ≡ lengths_fit shape (lengths book.now.lines.now book.now.pages.now) }
 {
-    if !all_up_to(shape.characters, lines) {
+    if !all_up_to(shape.characters, book.lines) {
         return false;
     }
-    all_up_to(shape.lines, pages)
+    all_up_to(shape.lines, book.pages)
 }
 
 // What open looks at.
-pub fn book_fits(run: Run, text: &[u8], lines: &[u8], pages: &[u8]) -> bool
-    ensures { result ≡ book_fits (length text.now) (state run lines.now pages.now) }
+pub fn book_fits(run: Run, book: &BookRef) -> bool
+    ensures { result ≡ book_fits (length book.now.text.now) (state run book.now.lines.now book.now.pages.now) }
 {
     let shape = run.file.shape;
     let end = run.end;
-    if !shape_fits(run, text, lines, pages) {
+    if !shape_fits(run, book) {
         return false;
     }
-    if !lengths_fit(shape, lines, pages) {
+    if !lengths_fit(shape, book) {
         return false;
     }
-    places::in_bounds(shape, lines, pages, end)
+    book.in_bounds(shape, end)
 }
 
 // What every other call looks at: what open does, and the record. It calls no `book_fits`, so that all of it is one function.
-pub fn all_fits(run: Run, text: &[u8], lines: &[u8], pages: &[u8]) -> bool
-    ensures { result ≡ all_fits (length text.now) (state run lines.now pages.now) }
+pub fn all_fits(run: Run, book: &BookRef) -> bool
+    ensures { result ≡ all_fits (length book.now.text.now) (state run book.now.lines.now book.now.pages.now) }
 {
     let file = run.file;
     let shape = file.shape;
     let position = file.position;
     let end = run.end;
-    if !shape_fits(run, text, lines, pages) {
+    if !shape_fits(run, book) {
         return false;
     }
-    if !lengths_fit(shape, lines, pages) {
+    if !lengths_fit(shape, book) {
         return false;
     }
-    if !places::in_bounds(shape, lines, pages, end) {
+    if !book.in_bounds(shape, end) {
         return false;
     }
-    if !places::in_bounds(shape, lines, pages, position) {
+    if !book.in_bounds(shape, position) {
         return false;
     }
     if places::is_before(end, position) {
@@ -172,29 +173,22 @@ pub fn all_fits(run: Run, text: &[u8], lines: &[u8], pages: &[u8]) -> bool
 }
 
 // Whether shape, lent sizes and lengths fit.
-pub fn is_sound(shape: Shape, text: usize, lines: &[u8], pages: &[u8]) -> bool
-    ensures { result ≡ sound shape text lines.now pages.now }
+pub fn is_sound(shape: Shape, book: &BookRef) -> bool
+    ensures { result ≡ sound shape (length book.now.text.now) book.now.lines.now book.now.pages.now }
 {
     if !is_legal(shape) {
         return false;
     }
-    if !sizes_fit(shape, text, lines.len(), pages.len()) {
+    if !sizes_fit(shape, book.text.len(), book.lines.len(), book.pages.len()) {
         return false;
     }
-    lengths_fit(shape, lines, pages)
+    lengths_fit(shape, book)
 }
 
 // How many places a line has for a position, 0 where there is no such line: in sound memory no index has to be looked at.
-pub fn places_on(
-    shape: Shape,
-    text: usize,
-    lines: &[u8],
-    pages: &[u8],
-    page: usize,
-    line: usize,
-) -> usize
-    requires { Lent shape text lines.now pages.now }
-    ensures { (result ≡ places_on shape (lengths lines.now pages.now) page line) × (result ≤ 256) }
+pub fn places_on(shape: Shape, book: &BookRef, page: usize, line: usize) -> usize
+    requires { Lent shape (length book.now.text.now) book.now.lines.now book.now.pages.now }
+    ensures { (result ≡ places_on shape (lengths book.now.lines.now book.now.pages.now) page line) × (result ≤ 256) }
 {
     if page == 0 {
         return 0;
@@ -203,41 +197,34 @@ pub fn places_on(
         return 0;
     }
     let mut size = 0;
-    if page <= pages.len() {
-        size = places::wide(pages[page - 1]);
+    if page <= book.pages.len() {
+        size = usize::from(book.pages[page - 1]);
         if line <= size {
             let i = (page - 1) * shape.lines + (line - 1);
-            return places::wide(lines[i]) + 1;
+            return usize::from(book.lines[i]) + 1;
         }
-    } else if page != pages.len() + 1 {
+    } else if page != book.pages.len() + 1 {
         return 0;
     }
     if line == size + 1 { 1 } else { 0 }
 }
 
 // Whether a place is in bounds.
-pub fn is_within(shape: Shape, text: usize, lines: &[u8], pages: &[u8], to: Position) -> bool
-    requires { Lent shape text lines.now pages.now }
-    ensures { result ≡ in_bounds shape (lengths lines.now pages.now) to }
+pub fn is_within(shape: Shape, book: &BookRef, to: Position) -> bool
+    requires { Lent shape (length book.now.text.now) book.now.lines.now book.now.pages.now }
+    ensures { result ≡ in_bounds shape (lengths book.now.lines.now book.now.pages.now) to }
 {
     if to.character < 1 {
         return false;
     }
-    to.character <= places_on(shape, text, lines, pages, to.page, to.line)
+    to.character <= places_on(shape, book, to.page, to.line)
 }
 
 // Whether a position is in bounds and not beyond the logical end, which is in bounds: on its line nothing has to be looked up.
-pub fn is_reached(
-    shape: Shape,
-    text: usize,
-    lines: &[u8],
-    pages: &[u8],
-    position: Position,
-    end: Position,
-) -> bool
-    requires lent { Lent shape text lines.now pages.now }
-    requires end_in_bounds { in_bounds shape (lengths lines.now pages.now) end ≡ true }
-    ensures { result ≡ (not (before end position) && in_bounds shape (lengths lines.now pages.now) position) }
+pub fn is_reached(shape: Shape, book: &BookRef, position: Position, end: Position) -> bool
+    requires lent { Lent shape (length book.now.text.now) book.now.lines.now book.now.pages.now }
+    requires end_in_bounds { in_bounds shape (lengths book.now.lines.now book.now.pages.now) end ≡ true }
+    ensures { result ≡ (not (before end position) && in_bounds shape (lengths book.now.lines.now book.now.pages.now) position) }
 {
     if position.character < 1 {
         return false;
@@ -252,13 +239,13 @@ pub fn is_reached(
     } else if end.page < position.page {
         return false;
     }
-    position.character <= places_on(shape, text, lines, pages, position.page, position.line)
+    position.character <= places_on(shape, book, position.page, position.line)
 }
 
 // The first half of the tests before work: 1 where the record is not open; 3 where its flags, its shape, the lent sizes or the lengths do
 // not fit. The tests stand in two halves, so that each is short enough to become part of its caller.
-pub fn test_memory(file: File, text: usize, lines: &[u8], pages: &[u8]) -> Result<(), Refusal>
-    ensures { result ≡ memory_tested text file lines.now pages.now }
+pub fn test_memory(file: File, book: &BookRef) -> Result<(), Refusal>
+    ensures { result ≡ memory_tested (length book.now.text.now) file book.now.lines.now book.now.pages.now }
 {
     let shape = file.shape;
     if !file.opened {
@@ -267,7 +254,7 @@ pub fn test_memory(file: File, text: usize, lines: &[u8], pages: &[u8]) -> Resul
     if !flags_fit(file) {
         return Err(Refusal::BadBook);
     }
-    if is_sound(shape, text, lines, pages) {
+    if is_sound(shape, book) {
         Ok(())
     } else {
         Err(Refusal::BadBook)
@@ -275,22 +262,16 @@ pub fn test_memory(file: File, text: usize, lines: &[u8], pages: &[u8]) -> Resul
 }
 
 // The second half: 3 where logical end or position do not fit.
-pub fn test_places(
-    file: File,
-    end: Position,
-    text: usize,
-    lines: &[u8],
-    pages: &[u8],
-) -> Result<(), Refusal>
-    requires { Lent file.shape text lines.now pages.now }
-    ensures { result ≡ places_tested file end (lengths lines.now pages.now) }
+pub fn test_places(file: File, end: Position, book: &BookRef) -> Result<(), Refusal>
+    requires { Lent file.shape (length book.now.text.now) book.now.lines.now book.now.pages.now }
+    ensures { result ≡ places_tested file end (lengths book.now.lines.now book.now.pages.now) }
 {
     let shape = file.shape;
     let position = file.position;
-    if !is_within(shape, text, lines, pages, end) {
+    if !is_within(shape, book, end) {
         return Err(Refusal::BadBook);
     }
-    if is_reached(shape, text, lines, pages, position, end) {
+    if is_reached(shape, book, position, end) {
         Ok(())
     } else {
         Err(Refusal::BadBook)
@@ -332,26 +313,20 @@ pub fn row_fits(row: &[u32]) -> bool
 }
 
 // Both halves: 1, then 3.
-pub fn test_book(run: Run, text: &[u8], lines: &[u8], pages: &[u8]) -> Result<(), Refusal>
-    ensures { result ≡ before_work (length text.now) (state run lines.now pages.now) }
+pub fn test_book(run: Run, book: &BookRef) -> Result<(), Refusal>
+    ensures { result ≡ before_work (length book.now.text.now) (state run book.now.lines.now book.now.pages.now) }
 {
     let file = run.file;
     let end = run.end;
-    test_memory(file, text.len(), lines, pages)?;
-    test_places(file, end, text.len(), lines, pages)
+    test_memory(file, book)?;
+    test_places(file, end, book)
 }
 
 // The tests of a call that lends answers: 1, then 3, then 2.
-pub fn test_call(
-    run: Run,
-    text: &[u8],
-    lines: &[u8],
-    pages: &[u8],
-    row: &[u32],
-) -> Result<(), Refusal>
-    ensures { result ≡ before_asking row.now (length text.now) (state run lines.now pages.now) }
+pub fn test_call(run: Run, book: &BookRef, row: &[u32]) -> Result<(), Refusal>
+    ensures { result ≡ before_asking row.now (length book.now.text.now) (state run book.now.lines.now book.now.pages.now) }
 {
-    test_book(run, text, lines, pages)?;
+    test_book(run, book)?;
     if row_fits(row) {
         Ok(())
     } else {

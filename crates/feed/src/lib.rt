@@ -29,7 +29,8 @@ pub struct Lines<'a, R, const N: usize> {
     ghost filled: { to ≤ CHUNK },
 }
 
-// Reads until the buffer is full or the source ends: how many bytes now stand at its start.
+// Reads until the buffer is full or the source ends: how many bytes now stand at its start. `read_exact` takes a source that ends for an
+// error, and how often there is to read is not known before.
 pub fn read_full<R: Read>(source: &mut R, buffer: &mut [u8]) -> io::Result<usize>
     ensures { IfOk result (λ n. n ≤ length buffer.new) }
 {

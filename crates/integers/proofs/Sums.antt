@@ -12,7 +12,7 @@ use mir.Facts.{to_z-of_z}
 use Rattle.rules.specs.Calls.{Value, an_integer, first_digit, with_sign, integer_given, sign_before}
 use lib.Seq.{sets}
 use Rattle.rules.specs.Whole.{whole_text}
-use borrow.Author.Tests.{le-leb, lt-leb, leb-true, leb-false, eq-eqb, ne_eqb}
+use borrow.Author.Tests.{le-leb, lt-leb, leb-true, leb-false}
 use Rattle.rules.specs.declared.Run.{Run}
 use Rattle.rules.specs.declared.Event.TheVariants as code
 use Rattle.rules.specs.declared.Position.{Position}

@@ -1,13 +1,31 @@
 // Positions and lengths: order, bounds, and where a line or a character stands among what is lent.
 #![tactic(auto)]
 
-ghost use Rattle.std.specs.Prelude.{◌≡◌, ◌-◌, ◌≤◌, ◌<◌, ◌^◌, get_or};
-ghost use Rattle.rules.specs.Book.{place, before, lengths, page_length, line_index, line_length, character_index, in_bounds, state};
+ghost use Rattle.std.specs.Prelude.{◌≡◌, false, ◌≤◌, ◌<◌, ◌^◌, get_or};
+ghost use Rattle.rules.specs.Book.{place, before, lengths, page_length, line_index, line_length, character_index, in_bounds};
 ghost use Rattle.rules.specs.Step.{file_ended, page_ended, line_ended, on_end_line};
 ghost use Rattle.places.specs.Small.{Small};
 ghost use Rattle.places.specs.Good.{page_good, line_good};
+ghost use Rattle.places.specs.Lent.{state_over, Shares};
 
 use rules::{Position, Run, Shape};
+
+// A book as it is lent to be read: its characters, the lengths of its lines and the lengths of its pages. Its logical end goes with the
+// record.
+#[derive(Clone, Copy)]
+pub struct BookRef<'a> {
+    pub text: &'a [u8],
+    pub lines: &'a [u8],
+    pub pages: &'a [u8],
+}
+
+// A book as it is lent to be changed.
+#[derive(Drop)]
+pub struct BookMut<'a> {
+    pub text: &'a mut [u8],
+    pub lines: &'a mut [u8],
+    pub pages: &'a mut [u8],
+}
 
 // Whether x stands before y.
 #[tactic(auto, unfolding(rules::specs::Book::before))]
@@ -15,13 +33,6 @@ pub fn is_before(x: Position, y: Position) -> bool
     ensures { result ≡ before x y }
 {
     x < y
-}
-
-// A byte as a number to count with.
-pub fn wide(b: u8) -> usize
-    ensures { result ≡ b }
-{
-    usize::from(b)
 }
 
 // Good file's test.
@@ -36,26 +47,12 @@ pub fn file_ended(run: Run, reading: bool) -> bool
     }
 }
 
-// One less, or 0.
-pub fn previous(n: usize) -> usize
-    ensures { result ≡ n - 1 }
-{
-    n.saturating_sub(1)
-}
-
 // The length of a page, 0 where it is not there.
 #[tactic(auto, unfolding(rules::specs::Book::page_length))]
 pub fn page_length(pages: &[u8], page: usize) -> usize
     ensures { (result ≡ page_length pages.now page) × (result ≤ 255) }
 {
     usize::from(pages.get(page.saturating_sub(1)).copied().unwrap_or(0))
-}
-
-// Good page's test.
-pub fn page_ended(run: Run, pages: &[u8]) -> bool
-    ensures { result ≡ page_ended run pages.now }
-{
-    page_length(pages, run.file.position.page) < run.file.position.line
 }
 
 // Whether the position is on the logical end's line.
@@ -74,55 +71,6 @@ pub fn line_index(shape: Shape, page: usize, line: usize) -> usize
     (page - 1) * shape.lines + (line - 1)
 }
 
-// The length of a line, 0 where it is not there.
-#[tactic(auto, unfolding(rules::specs::Book::line_length))]
-pub fn line_length(shape: Shape, lines: &[u8], pages: &[u8], page: usize, line: usize) -> usize
-    requires { Small shape page line }
-    ensures { (result ≡ line_length shape (lengths lines.now pages.now) page line) × (result ≤ 255) }
-{
-    if page_length(pages, page) < line {
-        return 0;
-    }
-    usize::from(
-        lines
-            .get(line_index(shape, page, line))
-            .copied()
-            .unwrap_or(0),
-    )
-}
-
-// Good line's test.
-pub fn line_ended(run: Run, lines: &[u8], pages: &[u8]) -> bool
-    requires { Small run.file.shape run.file.position.page run.file.position.line }
-    ensures { result ≡ line_ended (state run lines.now pages.now) }
-{
-    let shape = run.file.shape;
-    line_length(
-        shape,
-        lines,
-        pages,
-        run.file.position.page,
-        run.file.position.line,
-    ) < run.file.position.character
-}
-
-// Whether the position is in a good line: none of the three tests is met. A page that ended has no such line, so the line's test is
-// the page's too.
-pub fn line_good(run: Run, reading: bool, lines: &[u8], pages: &[u8]) -> bool
-    requires small { Small run.file.shape run.file.position.page run.file.position.line }
-    requires le_character { 1 ≤ run.file.position.character }
-    ensures { result ≡ line_good reading (state run lines.now pages.now) }
-{
-    !file_ended(run, reading) && !line_ended(run, lines, pages)
-}
-
-// Whether the position is in a good page: neither test is met.
-pub fn page_good(run: Run, reading: bool, pages: &[u8]) -> bool
-    ensures { result ≡ page_good reading run pages.now }
-{
-    !file_ended(run, reading) && !page_ended(run, pages)
-}
-
 // Where a character stands in the text.
 #[tactic(auto, unfolding(rules::specs::Book::character_index))]
 pub fn character_index(shape: Shape, page: usize, line: usize, character: usize) -> usize
@@ -133,29 +81,113 @@ pub fn character_index(shape: Shape, page: usize, line: usize, character: usize)
     line_index(shape, page, line) * shape.characters + (character - 1)
 }
 
-// The character at the position, 0 where it is not there.
-pub fn character_here(run: Run, text: &[u8]) -> u8
-    requires small { Small run.file.shape run.file.position.page run.file.position.line }
-    requires le_character { (1 ≤ run.file.position.character) × (run.file.position.character ≤ 256) }
-    ensures { result ≡ get_or text.now (character_index run.file.shape run.file.position) 0 }
-{
-    let shape = run.file.shape;
-    let i = character_index(
-        shape,
-        run.file.position.page,
-        run.file.position.line,
-        run.file.position.character,
-    );
-    text.get(i).copied().unwrap_or(0)
+impl BookRef<'_> {
+    // The length of a line, 0 where it is not there.
+    #[tactic(auto, unfolding(rules::specs::Book::line_length))]
+    pub fn line_length(&self, shape: Shape, page: usize, line: usize) -> usize
+        requires { Small shape page line }
+        ensures { (result ≡ line_length shape (lengths self.now.lines.now self.now.pages.now) page line) × (result ≤ 255) }
+    {
+        if page_length(self.pages, page) < line {
+            return 0;
+        }
+        let index = line_index(shape, page, line);
+        usize::from(self.lines.get(index).copied().unwrap_or(0))
+    }
+
+    // Whether a place is in bounds.
+    #[tactic(auto, unfolding(rules::specs::Book::in_bounds, rules::specs::Book::within))]
+    pub fn in_bounds(&self, shape: Shape, to: Position) -> bool
+        requires { (shape.pages ≤ 255) × (shape.lines ≤ 255) × (shape.characters ≤ 255) }
+        ensures { result ≡ in_bounds shape (lengths self.now.lines.now self.now.pages.now) to }
+    {
+        (1..=shape.pages + 1).contains(&to.page)
+            && (1..=page_length(self.pages, to.page) + 1).contains(&to.line)
+            && (1..=self.line_length(shape, to.page, to.line) + 1).contains(&to.character)
+    }
 }
 
-// Whether a place is in bounds.
-#[tactic(auto, unfolding(rules::specs::Book::in_bounds, rules::specs::Book::within))]
-pub fn in_bounds(shape: Shape, lines: &[u8], pages: &[u8], to: Position) -> bool
-    requires { (shape.pages ≤ 255) × (shape.lines ≤ 255) × (shape.characters ≤ 255) }
-    ensures { result ≡ in_bounds shape (lengths lines.now pages.now) to }
-{
-    (1..=shape.pages + 1).contains(&to.page)
-        && (1..=page_length(pages, to.page) + 1).contains(&to.line)
-        && (1..=line_length(shape, lines, pages, to.page, to.line) + 1).contains(&to.character)
+impl BookMut<'_> {
+    // The same book, to be read.
+    pub fn shared(&self) -> BookRef<'_>
+        ensures { Shares self.now result }
+    {
+        BookRef {
+            text: self.text,
+            lines: self.lines,
+            pages: self.pages,
+        }
+    }
+
+    // The length of a page, 0 where it is not there.
+    pub fn page_length(&self, page: usize) -> usize
+        ensures { (result ≡ page_length self.now.pages.now page) × (result ≤ 255) }
+    {
+        page_length(self.pages, page)
+    }
+
+    // The length of a line, 0 where it is not there.
+    pub fn line_length(&self, shape: Shape, page: usize, line: usize) -> usize
+        requires { Small shape page line }
+        ensures { (result ≡ line_length shape (lengths self.now.lines.now self.now.pages.now) page line) × (result ≤ 255) }
+    {
+        self.shared().line_length(shape, page, line)
+    }
+
+    // Whether a place is in bounds.
+    pub fn in_bounds(&self, shape: Shape, to: Position) -> bool
+        requires { (shape.pages ≤ 255) × (shape.lines ≤ 255) × (shape.characters ≤ 255) }
+        ensures { result ≡ in_bounds shape (lengths self.now.lines.now self.now.pages.now) to }
+    {
+        self.shared().in_bounds(shape, to)
+    }
+
+    // Good page's test. The number of a line that is there is a byte's.
+    pub fn page_ended(&self, run: Run) -> bool
+        ensures { (result ≡ page_ended run self.now.pages.now) × (result ≡ false → run.file.position.line ≤ 255) }
+    {
+        self.page_length(run.file.position.page) < run.file.position.line
+    }
+
+    // Good line's test.
+    pub fn line_ended(&self, run: Run) -> bool
+        requires { Small run.file.shape run.file.position.page run.file.position.line }
+        ensures { result ≡ line_ended (state_over run self.now) }
+    {
+        let position = run.file.position;
+        self.line_length(run.file.shape, position.page, position.line) < position.character
+    }
+
+    // Whether the position is in a good page: neither test is met.
+    pub fn page_good(&self, run: Run, reading: bool) -> bool
+        ensures { result ≡ page_good reading run self.now.pages.now }
+    {
+        !file_ended(run, reading) && !self.page_ended(run)
+    }
+
+    // Whether the position is in a good line: none of the three tests is met. A page that ended has no such line, so the line's test is
+    // the page's too.
+    pub fn line_good(&self, run: Run, reading: bool) -> bool
+        requires small { Small run.file.shape run.file.position.page run.file.position.line }
+        requires le_character { 1 ≤ run.file.position.character }
+        ensures { result ≡ line_good reading (state_over run self.now) }
+    {
+        !file_ended(run, reading) && !self.line_ended(run)
+    }
+
+    // The character at the position, 0 where it is not there.
+    pub fn character_here(&self, run: Run) -> u8
+        requires small { Small run.file.shape run.file.position.page run.file.position.line }
+        requires le_character { (1 ≤ run.file.position.character) × (run.file.position.character ≤ 256) }
+        ensures { result ≡ get_or self.now.text.now (character_index run.file.shape run.file.position) 0 }
+    {
+        let shape = run.file.shape;
+        let i = character_index(
+            shape,
+            run.file.position.page,
+            run.file.position.line,
+            run.file.position.character,
+        );
+        self.text.get(i).copied().unwrap_or(0)
+    }
 }

@@ -1,12 +1,10 @@
 -- Each of these calls beside its definition. Assumes nothing.
-use Prim.Native.Nat.{ℕ, ◌+◌, ◌*◌}
-use native.Mathlib.Omega.{arith}
+use Prim.Native.Nat.{ℕ, ◌*◌}
 use mathlib.Core.Path.{◌≡◌, refl, sym, ap, ◌∙◌}
 use mathlib.Core.Bool.{Bool, true, false}
-use mathlib.Core.List.{List, [], ◌++◌, append-nil}
+use mathlib.Core.List.{List, []}
 use lib.Dec.{ltb}
-use lib.ListN.{length, take, drop, replicate, length-replicate}
-use lib.Seq.{sets, sets-eq, drop-length}
+use lib.ListN.{length, replicate}
 use Rattle.rules.specs.declared.Position.{Position}
 use Rattle.rules.specs.declared.File.{File}
 use Rattle.rules.specs.declared.Run.{Run}
@@ -22,13 +20,6 @@ use Rattle.laws.proofs.Ways.{need_true, need_false, change_then}
 use Rattle.entry.specs.Before.{Tested, before_work, refused_reply, ended_reply}
 use Rattle.begins.proofs.Begins.{start_of, checked_on, reply_refused, reply_nothing}
 use Rattle.plain.specs.Done.{done_reply}
-
--- every element set
-pub sets_all : (l : List ℕ) (n b : ℕ) → length l ≡ n → sets l 0 (replicate n b) ≡ replicate n b
-sets_all l n b e =
-    let z : 0 + length (replicate n b) ≡ length l = omega (arith, length-replicate n b, e) in
-    let d : drop (0 + length (replicate n b)) l ≡ [] = ap (λ (k : ℕ). drop k l) z ∙ drop-length l in
-    sets-eq (replicate n b) l 0 (omega (arith, length-replicate n b, e)) ∙ ap (λ (x : List ℕ). take 0 l ++ replicate n b ++ x) d ∙ append-nil (take 0 l ++ replicate n b)
 
 -- what close does
 abbrev pub closes_only : State → State

@@ -5,8 +5,10 @@
 ghost use Rattle.std.specs.Prelude.{◌≡◌, [], true, false};
 ghost use Rattle.rules.specs.Book.{place, file_as, file_choosing, file_opened, rewound};
 ghost use Rattle.plain.specs.Done.{done_reply};
+ghost use Rattle.places.specs.Lent.{shared_book, after_shared};
 ghost use Rattle.rules.specs.Calls.{book, call, after, plain, establishes, opens, closes, chooses, resets, backspaces};
 
+use places::BookRef;
 use rules::{File, Position, Refusal, Reply};
 
 // Where a book begins.
@@ -52,6 +54,7 @@ pub fn done(file: File, end: Position) -> Reply
 }
 
 // Establishes a book over lent memory: every length full, and no character wiped.
+// The C interface lends its text to be read alone, so it takes no `BookMut`.
 pub fn establish(
     file: File,
     end: Position,
@@ -62,36 +65,36 @@ pub fn establish(
     ensures { after result [] text.now lines.new pages.new ≡ call (plain establishes) file (book text.now lines.old pages.old end) }
 {
     let start = entry::start(file, end);
-    if !entry::shape_fits(start, text, lines, pages) {
+    let book = BookRef { text, lines, pages };
+    if !entry::shape_fits(start, &book) {
         return entry::refuse(start, Refusal::BadBook);
     }
     if !file.rights.put {
         return entry::refuse(start, Refusal::RightMissing);
     }
-    let all_lines = lines.len();
-    let all_pages = pages.len();
-    stores::fill(lines, 0, all_lines, file.shape.characters as u8);
-    stores::fill(pages, 0, all_pages, file.shape.lines as u8);
+    // A shape that fits is at most 255: `try_from` would add an arm that no call reaches.
+    lines.fill(file.shape.characters as u8);
+    pages.fill(file.shape.lines as u8);
     done(established(file), FIRST)
 }
 
 // Opens a book with the logical end that it has.
-pub fn open(file: File, end: Position, text: &[u8], lines: &[u8], pages: &[u8]) -> Reply
-    ensures { after result [] text.now lines.now pages.now ≡ call (plain opens) file (book text.now lines.now pages.now end) }
+pub fn open(file: File, end: Position, book: &BookRef) -> Reply
+    ensures { after_shared result [] book.now ≡ call (plain opens) file (shared_book book.now end) }
 {
     let start = entry::start(file, end);
-    if !entry::book_fits(start, text, lines, pages) {
+    if !entry::book_fits(start, book) {
         return entry::refuse(start, Refusal::BadBook);
     }
     done(opened(file), end)
 }
 
 // Closes the record.
-pub fn close(file: File, end: Position, text: &[u8], lines: &[u8], pages: &[u8]) -> Reply
-    ensures { after result [] text.now lines.now pages.now ≡ call (plain closes) file (book text.now lines.now pages.now end) }
+pub fn close(file: File, end: Position, book: &BookRef) -> Reply
+    ensures { after_shared result [] book.now ≡ call (plain closes) file (shared_book book.now end) }
 {
     let start = entry::start(file, end);
-    if let Err(refusal) = entry::test_book(start, text, lines, pages) {
+    if let Err(refusal) = entry::test_book(start, book) {
         return entry::refuse(start, refusal);
     }
     let mut closed = file;
@@ -100,18 +103,11 @@ pub fn close(file: File, end: Position, text: &[u8], lines: &[u8], pages: &[u8])
 }
 
 // Chooses what becomes of a string that does not fit on its line: the Report's split, or refusal 16.
-pub fn choose(
-    file: File,
-    end: Position,
-    split: bool,
-    text: &[u8],
-    lines: &[u8],
-    pages: &[u8],
-) -> Reply
-    ensures { after result [] text.now lines.now pages.now ≡ call (plain (chooses split)) file (book text.now lines.now pages.now end) }
+pub fn choose(file: File, end: Position, split: bool, book: &BookRef) -> Reply
+    ensures { after_shared result [] book.now ≡ call (plain (chooses split)) file (shared_book book.now end) }
 {
     let start = entry::start(file, end);
-    if let Err(refusal) = entry::test_book(start, text, lines, pages) {
+    if let Err(refusal) = entry::test_book(start, book) {
         return entry::refuse(start, refusal);
     }
     let mut chosen = file;
@@ -120,22 +116,22 @@ pub fn choose(
 }
 
 // Resets the record: its moods by its rights, at (1,1,1).
-pub fn reset(file: File, end: Position, text: &[u8], lines: &[u8], pages: &[u8]) -> Reply
-    ensures { after result [] text.now lines.now pages.now ≡ call (plain resets) file (book text.now lines.now pages.now end) }
+pub fn reset(file: File, end: Position, book: &BookRef) -> Reply
+    ensures { after_shared result [] book.now ≡ call (plain resets) file (shared_book book.now end) }
 {
     let start = entry::start(file, end);
-    if let Err(refusal) = entry::test_book(start, text, lines, pages) {
+    if let Err(refusal) = entry::test_book(start, book) {
         return entry::refuse(start, refusal);
     }
     entry::ended(running::reset(start))
 }
 
 // Backspaces: one character back on the line.
-pub fn backspace(file: File, end: Position, text: &[u8], lines: &[u8], pages: &[u8]) -> Reply
-    ensures { after result [] text.now lines.now pages.now ≡ call (plain backspaces) file (book text.now lines.now pages.now end) }
+pub fn backspace(file: File, end: Position, book: &BookRef) -> Reply
+    ensures { after_shared result [] book.now ≡ call (plain backspaces) file (shared_book book.now end) }
 {
     let start = entry::start(file, end);
-    if let Err(refusal) = entry::test_book(start, text, lines, pages) {
+    if let Err(refusal) = entry::test_book(start, book) {
         return entry::refuse(start, refusal);
     }
     entry::ended(running::backspace(start))

@@ -109,7 +109,7 @@ pub enum Refusal {
 }
 
 impl Refusal {
-    // Its number.
+    // Its number: `as` reads the one that stands at its case.
     pub fn number(self) -> u8
         ensures { result ≡ refusal_number self }
     {
@@ -127,7 +127,7 @@ pub enum Stop {
 }
 
 impl Stop {
-    // Its number.
+    // Its number: `as` reads the one that stands at its case.
     pub fn number(self) -> u8
         ensures { result ≡ stop_number self }
     {

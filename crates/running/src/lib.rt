@@ -149,7 +149,7 @@ pub fn character_of(word: u32) -> u32
     word & 1023
 }
 
-// The three fields of an answer word as a position.
+// The three fields of an answer word as a position. The library has no From<u32> for usize.
 pub fn place_of(word: u32) -> Position
     ensures { result ≡ place_of word }
 {
@@ -176,6 +176,7 @@ pub fn mending_of(word: u32) -> Mending
     } else if kind == 6 {
         Mending::Reset
     } else if kind == 7 {
+        // as in `place_of`
         Mending::Suggest(character_of(word) as usize)
     } else {
         Mending::Nothing
@@ -203,7 +204,8 @@ pub fn next_answer(run: Run, row: &[u32]) -> Answer
     answer_of(next_word(run, row))
 }
 
-// The character that a true answer leaves to an event which suggested b; refusal 2 keeps kind 7 at 255 at most.
+// The character that a true answer leaves to an event which suggested b; refusal 2 keeps kind 7 at 255 at most, so `try_from` would add
+// an arm that no call reaches.
 pub fn suggestion(mending: Mending, b: u8) -> u8
     requires { suggested (mending_as mending) b < 256 }
     ensures { result ≡ suggested (mending_as mending) b }

@@ -8,6 +8,7 @@ ghost use Rattle.rules.specs.Book.{run_with};
 ghost use Rattle.views.specs.Checked.{Checks};
 
 use console::{BadLine, Pairs, Words};
+use places::BookRef;
 use rules::{File, Position, Refusal, Rights, Shape};
 use std::mem;
 use views::CheckedBook;
@@ -62,7 +63,8 @@ pub struct Row {
     ghost fits: { count ≤ ROW },
 }
 
-// What a call on a side is lent: its record, the logical end, parts of its memory, and answers.
+// What a call on a side is lent: its record, the logical end, parts of its memory, and answers. The three parts stand side by side, since
+// no proof takes a `BookMut` apart out of a struct that is passed by value.
 #[derive(Drop)]
 pub struct Lent<'a> {
     pub file: File,
@@ -134,25 +136,17 @@ impl Side {
         }
     }
 
-    // The text that a call is lent.
-    pub fn text(&self) -> &[u8]
-        ensures { result.now ≡ take self.now.sizes.text self.now.book.text }
+    // The parts of the book that a call is lent, to be read.
+    pub fn shared(&self) -> BookRef<'_>
+        ensures text { result.text.now ≡ take self.now.sizes.text self.now.book.text }
+        ensures lines { result.lines.now ≡ take self.now.sizes.lines self.now.book.lines }
+        ensures pages { result.pages.now ≡ take self.now.sizes.pages self.now.book.pages }
     {
-        &self.book.text[..self.sizes.text]
-    }
-
-    // The line lengths that a call is lent.
-    pub fn lines(&self) -> &[u8]
-        ensures { result.now ≡ take self.now.sizes.lines self.now.book.lines }
-    {
-        &self.book.lines[..self.sizes.lines]
-    }
-
-    // The page lengths that a call is lent.
-    pub fn pages(&self) -> &[u8]
-        ensures { result.now ≡ take self.now.sizes.pages self.now.book.pages }
-    {
-        &self.book.pages[..self.sizes.pages]
+        BookRef {
+            text: &self.book.text[..self.sizes.text],
+            lines: &self.book.lines[..self.sizes.lines],
+            pages: &self.book.pages[..self.sizes.pages],
+        }
     }
 
     // What a call is lent, with answers.
@@ -186,7 +180,7 @@ impl Side {
         ensures { Checks (run_with self.now.file self.now.end 0 0) (take self.now.sizes.text self.now.book.text) (take self.now.sizes.lines self.now.book.lines) (take self.now.sizes.pages self.now.book.pages) result }
     {
         let run = entry::start(self.file, self.end);
-        CheckedBook::check(run, self.text(), self.lines(), self.pages())
+        CheckedBook::check(run, self.shared())
     }
 
     // The view of a line: its characters, or the marker where it has none; the refusal where it is not shown.
@@ -198,8 +192,9 @@ impl Side {
     ) -> Result<&'a [u8], Refusal> {
         let file = self.file;
         let end = self.end;
-        let (text, lines, pages) = (self.text(), self.lines(), self.pages());
-        views::span_of(entry::start(file, end), page, line, text, lines, pages)?;
+        let book = self.shared();
+        views::span_of(entry::start(file, end), page, line, &book)?;
+        let BookRef { text, lines, pages } = book;
         Ok(views::line_view(file, end, page, line, text, lines, pages, marker))
     }
 }

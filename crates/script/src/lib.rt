@@ -6,6 +6,7 @@ ghost use Rattle.script.specs.Calls.{output_of};
 
 use console::{BadLine, Hex, Pairs, Words};
 use differs::Books;
+use places::{BookMut, BookRef};
 use rules::{Position, Refusal, Reply};
 use scenes::{Lent, MOST, Setting, Side, Stage, TEXT};
 use shows::CallLine;
@@ -85,14 +86,15 @@ impl Plain {
             pages,
             row: _,
         } = lent;
+        let book = &BookRef { text, lines, pages };
         match self {
             Plain::Establish => plain::establish(file, end, text, lines, pages),
-            Plain::Open => plain::open(file, end, text, lines, pages),
-            Plain::Close => plain::close(file, end, text, lines, pages),
-            Plain::Split => plain::choose(file, end, true, text, lines, pages),
-            Plain::Fit => plain::choose(file, end, false, text, lines, pages),
-            Plain::Reset => plain::reset(file, end, text, lines, pages),
-            Plain::Backspace => plain::backspace(file, end, text, lines, pages),
+            Plain::Open => plain::open(file, end, book),
+            Plain::Close => plain::close(file, end, book),
+            Plain::Split => plain::choose(file, end, true, book),
+            Plain::Fit => plain::choose(file, end, false, book),
+            Plain::Reset => plain::reset(file, end, book),
+            Plain::Backspace => plain::backspace(file, end, book),
         }
     }
 }
@@ -107,14 +109,15 @@ impl Layout {
             pages,
             row,
         } = lent;
+        let book = &mut BookMut { text, lines, pages };
         match self {
-            Layout::Space => layout::space(file, end, text, lines, pages, row),
-            Layout::Newline => layout::newline(file, end, text, lines, pages, row),
-            Layout::Newpage => layout::newpage(file, end, text, lines, pages, row),
+            Layout::Space => layout::space(file, end, book, row),
+            Layout::Newline => layout::newline(file, end, book, row),
+            Layout::Newpage => layout::newpage(file, end, book, row),
             Layout::SetCharacter(number) => {
-                layout::set_character_number(file, end, number, text, lines, pages, row)
+                layout::set_character_number(file, end, number, book, row)
             }
-            Layout::Set(to) => layout::set(file, end, to, text, lines, pages, row),
+            Layout::Set(to) => layout::set(file, end, to, book, row),
         }
     }
 }
@@ -130,13 +133,14 @@ impl Put<'_> {
             pages,
             row,
         } = lent;
+        let book = &mut BookMut { text, lines, pages };
         match self {
-            Put::Character(byte) => puts::put_character(file, end, byte, text, lines, pages, row),
+            Put::Character(byte) => puts::put_character(file, end, byte, book, row),
             Put::String(pairs) => {
                 let bytes = pairs.store(bytes);
-                puts::put_string(file, end, bytes, text, lines, pages, row)
+                puts::put_string(file, end, bytes, book, row)
             }
-            Put::Integer(value) => puts::put_integer(file, end, value, text, lines, pages, row),
+            Put::Integer(value) => puts::put_integer(file, end, value, book, row),
         }
     }
 }
@@ -152,12 +156,13 @@ impl Get<'_> {
             pages,
             row,
         } = lent;
+        let book = &mut BookMut { text, lines, pages };
         match self {
-            Get::Character => gets::get_character(file, end, text, lines, pages, row),
-            Get::Integer => gets::get_integer(file, end, text, lines, pages, row),
+            Get::Character => gets::get_character(file, end, book, row),
+            Get::Integer => gets::get_integer(file, end, book, row),
             Get::String { terminators, .. } => {
                 let terminators = terminators.store(bytes);
-                gets::get_string(file, end, terminators, output, text, lines, pages, row)
+                gets::get_string(file, end, terminators, output, book, row)
             }
         }
     }
@@ -166,12 +171,8 @@ impl Get<'_> {
 // whole(v, w) into a lent output: how many characters it wrote.
 fn write_whole(value: i32, width: i16, output: &mut [u8]) -> Result<usize, Refusal> {
     let width = i32::from(width);
-    match whole::width_for(value, width, output.len()) {
-        Ok(_) => Ok(whole::whole(value, width, output).count),
-        Err(whole::Refusal::WidthOutOfRange) => Err(Refusal::OutOfRange),
-        Err(whole::Refusal::TooLarge) => Err(Refusal::TooLarge),
-        Err(whole::Refusal::OutputTooShort) => Err(Refusal::OutputTooShort),
-    }
+    whole::width_for(value, width, output.len())?;
+    Ok(whole::whole(value, width, output).count)
 }
 
 // The first side compared with the second, into a lent list: how many spans it found. Each side is taken over its own lent parts.
@@ -325,9 +326,8 @@ impl fmt::Display for Told<'_> {
             Told::Nothing => Ok(()),
             Told::Call(line) => write!(f, "{line}"),
             Told::Dump(side) => {
-                let text = Hex(side.text());
-                let lines = Hex(side.lines());
-                let pages = Hex(side.pages());
+                let book = side.shared();
+                let (text, lines, pages) = (Hex(book.text), Hex(book.lines), Hex(book.pages));
                 writeln!(f, "lines {lines}\npages {pages}\ntext {text}")
             }
         }

@@ -3,6 +3,7 @@
 #![tactic(auto)]
 
 use feed::{Line, Lines};
+use places::BookMut;
 use rules::{Refusal, Reply};
 use scenes::{Lent, Side};
 use shows::Place;
@@ -24,10 +25,11 @@ fn play(line: &[u8], lent: Lent) -> Reply {
         pages,
         row,
     } = lent;
+    let book = &mut BookMut { text, lines, pages };
     match line {
-        [b'S', b' ', put @ ..] => puts::put_string(file, end, put, text, lines, pages, row),
-        b"N" => layout::newline(file, end, text, lines, pages, row),
-        b"G" => layout::newpage(file, end, text, lines, pages, row),
+        [b'S', b' ', put @ ..] => puts::put_string(file, end, put, book, row),
+        b"N" => layout::newline(file, end, book, row),
+        b"G" => layout::newpage(file, end, book, row),
         _ => entry::refuse(entry::start(file, end), Refusal::OutOfRange),
     }
 }

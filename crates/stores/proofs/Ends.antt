@@ -1,14 +1,14 @@
 -- The ways out of the writing ends of a line and of a page, each over variables, so that a proof of code cites one with the facts that it
 -- has. Assumes nothing.
-use Prim.Native.Nat.{ℕ, ◌+◌, ◌-◌, ◌≤◌}
+use Prim.Native.Nat.{ℕ, ◌+◌, ◌-◌}
 use mathlib.Core.Path.{◌≡◌}
 use mathlib.Core.List.{List}
 use mathlib.Core.Bool.{true, false}
 use lib.Dec.{eqb}
-use lib.ListN.{set, get_or}
-use native.Mathlib.Omega.{arith}
-use borrow.Author.Tests.{ltb-false}
+use lib.ListN.{set}
 use Rattle.rules.specs.declared.Run.{Run}
+use Rattle.places.specs.declared.BookMut.{BookMut}
+use Rattle.places.specs.Lent.{state_over, with_text}
 use Rattle.rules.specs.Book.{choose, lengths, page_length, line_index, next_line, next_page, both_moved_to, state}
 use Rattle.rules.specs.Step.{done, ◌>>=◌, pure, change, test, branch, page_ended, blank_line, blank_lines, cut_line, cut_page, fill_line, fill_page, end_line, end_page}
 
@@ -17,11 +17,6 @@ module _ (r x : Run) (t l p : List ℕ) where
       → ls ≡ set l i (r.file.position.character - 1) → x ≡ both_moved_to r (next_line r.file.position) → done (tt {0}) (state x ls p) t ≡ end_line (state r l p) t
   unfolding end_line ◌>>=◌ test branch change cut_line
   end_line_cut ls i hc hi hl hx = rw (hx, hl, hi, hc)
-
-  pub end_line_fill : (t' : List ℕ) → r.file.rights.compress ≡ false → t' ≡ blank_line r.file.shape (lengths l p) r.file.position t
-      → x ≡ both_moved_to r (next_line r.file.position) → done (tt {0}) (state x l p) t' ≡ end_line (state r l p) t
-  unfolding end_line ◌>>=◌ test branch change fill_line
-  end_line_fill t' hc ht hx = rw (hx, ht, hc)
 
   pub end_page_full : r.file.rights.compress ≡ true → page_ended r p ≡ true → x ≡ both_moved_to r (next_page r.file.position) → done (tt {0}) (state x l p) t ≡ end_page (state r l p) t
   unfolding end_page ◌>>=◌ test branch change pure
@@ -33,13 +28,14 @@ module _ (r x : Run) (t l p : List ℕ) where
   unfolding end_page ◌>>=◌ test branch change cut_line cut_page
   end_page_cut ls ps i n hc hp hi hl hn hs hx = rw (hx, hs, hn, hl, hi, hc, hp)
 
-  pub end_page_fill : (t₁ t' : List ℕ) (size rest : ℕ) → r.file.rights.compress ≡ false → t₁ ≡ blank_line r.file.shape (lengths l p) r.file.position t
-      → size ≡ page_length p r.file.position.page → rest ≡ size - r.file.position.line → t' ≡ blank_lines r.file.shape (lengths l p) rest r.file.position.page (r.file.position.line + 1) t₁
-      → x ≡ both_moved_to r (next_page r.file.position) → done (tt {0}) (state x l p) t' ≡ end_page (state r l p) t
-  unfolding end_page ◌>>=◌ test branch change fill_page
-  end_page_fill t₁ t' size rest hc h₁ hs hr ht hx = rw (hx, ht, hr, hs, h₁, hc)
+module _ (r x : Run) (b : BookMut) where
+  pub end_line_fill : {b' : BookMut} → r.file.rights.compress ≡ false → b' ≡ with_text b (blank_line r.file.shape (lengths b.lines.now b.pages.now) r.file.position b.text.now)
+      → x ≡ both_moved_to r (next_line r.file.position) → done (tt {0}) (state_over x b') b'.text.now ≡ end_line (state_over r b) b.text.now
+  unfolding end_line ◌>>=◌ test branch change fill_line
+  end_line_fill hc hb hx = rw (hx, hb, hc)
 
--- a line that is there has a number below its page's length, a byte
-pub open_line_small : (r : Run) (ps : List ℕ) → page_ended r ps ≡ false → get_or ps (r.file.position.page - 1) 0 ≤ 255 → r.file.position.line ≤ 255
-unfolding page_length
-open_line_small r ps h b = omega (arith, ltb-false (get_or ps (r.file.position.page - 1) 0) r.file.position.line h)
+  pub end_page_fill : {b₁ b' : BookMut} (size rest : ℕ) → r.file.rights.compress ≡ false → b₁ ≡ with_text b (blank_line r.file.shape (lengths b.lines.now b.pages.now) r.file.position b.text.now)
+      → size ≡ page_length b₁.pages.now r.file.position.page → rest ≡ size - r.file.position.line → b' ≡ with_text b₁ (blank_lines r.file.shape (lengths b₁.lines.now b₁.pages.now) rest r.file.position.page (r.file.position.line + 1) b₁.text.now)
+      → x ≡ both_moved_to r (next_page r.file.position) → done (tt {0}) (state_over x b') b'.text.now ≡ end_page (state_over r b) b.text.now
+  unfolding end_page ◌>>=◌ test branch change fill_page
+  end_page_fill size rest hc h₁ hs hr hb hx = rw (hx, hb, hr, hs, h₁, hc)

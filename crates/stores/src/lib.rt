@@ -2,13 +2,14 @@
 // of a page.
 #![tactic(auto)]
 
-ghost use Rattle.std.specs.Prelude.{◌≡◌, ◌⊎◌, ◌+◌, ◌-◌, ◌≤◌, ◌<◌, ◌^◌, length, set, take, drop, replicate};
-ghost use Rattle.std.proofs.lemmas.List.Edits.{sets};
+ghost use Rattle.std.specs.Prelude.{◌≡◌, ◌+◌, ◌≤◌, ◌<◌, ◌^◌, set};
 ghost use Rattle.rules.specs.Book.{place, lengths, character_index, state};
-ghost use Rattle.rules.specs.Step.{Out, done, goes_back, end_after, all_from, lengths_after, blanks, blank_line, blank_lines, end_line, end_page};
+ghost use Rattle.places.specs.Lent.{state_over, SameMemory, with_text};
+ghost use Rattle.rules.specs.Step.{done, goes_back, end_after, all_from, lengths_after, blanks, blank_line, blank_lines, end_line, end_page};
 ghost use Rattle.laws.specs.Runs.{stored_by};
 ghost use Rattle.places.specs.Small.{Small};
 
+use places::BookMut;
 use rules::{Position, Run, Shape};
 
 // Stores a byte, if its place is there. By `get_mut` no proof closes: its contract leaves open what the slice is afterwards.
@@ -20,34 +21,18 @@ pub fn store_byte(bytes: &mut [u8], i: usize, b: u8)
     }
 }
 
-// The lesser of two numbers.
-pub fn least(a: usize, b: usize) -> usize
-    ensures { (result ≤ a) × (result ≤ b) × ((result ≡ a) ⊎ (result ≡ b)) }
-{
-    a.min(b)
-}
-
-// Some bytes that are all the same, from an index on, as far as the slice goes.
-pub fn fill(bytes: &mut [u8], from: usize, count: usize, b: u8)
-    requires { from + count < 2 ^ 33 }
-    ensures { bytes.new ≡ sets bytes.old from (replicate count b) }
-{
-    let to = (from + count).min(bytes.len());
-    if from < to {
-        bytes[from..to].fill(b);
-    }
-}
-
-// Writes some blanks from an index on, as far as the text goes.
-#[tactic(auto, using(crate::proofs::Fills::fill_blanks))]
+// Writes some blanks from an index on, as far as the text goes: no caller knows the text's size, so none could cut it to that part.
 pub fn blank(text: &mut [u8], from: usize, count: usize)
     requires { (from < 2 ^ 32) × (count < 2 ^ 32) }
     ensures { text.new ≡ blanks count from text.old }
 {
-    fill(text, from, count, b' ');
+    let to = (from + count).min(text.len());
+    if from < to {
+        text[from..to].fill(b' ');
+    }
 }
 
-// Stores a length, if its place is there.
+// Stores a length, if its place is there. It is a byte: `try_from` would add an arm that no call reaches.
 pub fn put_length(lengths: &mut [u8], i: usize, n: usize)
     requires { n ≤ 255 }
     ensures { lengths.new ≡ set lengths.old i n }
@@ -55,49 +40,26 @@ pub fn put_length(lengths: &mut [u8], i: usize, n: usize)
     store_byte(lengths, i, n as u8);
 }
 
-// The difference, or 0 where there is none.
-pub fn minus(a: usize, b: usize) -> usize
-    ensures { result ≡ a - b }
-{
-    a.saturating_sub(b)
-}
-
 // Blanks a line from a character on, to its own length.
 #[tactic(auto, unfolding(rules::specs::Step::blank_line))]
-pub fn blank_line(
-    shape: Shape,
-    text: &mut [u8],
-    lines: &[u8],
-    pages: &[u8],
-    page: usize,
-    line: usize,
-    character: usize,
-)
+pub fn blank_line(shape: Shape, book: &mut BookMut, page: usize, line: usize, character: usize)
     requires small { Small shape page line }
     requires le_character { (1 ≤ character) × (character ≤ 256) }
-    ensures { text.new ≡ blank_line shape (lengths lines.now pages.now) (place page line character) text.old }
+    ensures { book.new ≡ with_text book.old (blank_line shape (lengths book.old.lines.now book.old.pages.now) (place page line character) book.old.text.now) }
 {
-    let size = places::line_length(shape, lines, pages, page, line);
+    let size = book.line_length(shape, page, line);
     let from = places::character_index(shape, page, line, character);
-    blank(text, from, (size + 1).saturating_sub(character));
+    blank(book.text, from, (size + 1).saturating_sub(character));
 }
 
 // Blanks some lines of a page.
-pub fn blank_lines(
-    shape: Shape,
-    text: &mut [u8],
-    lines: &[u8],
-    pages: &[u8],
-    count: usize,
-    page: usize,
-    line: usize,
-)
+pub fn blank_lines(shape: Shape, book: &mut BookMut, count: usize, page: usize, line: usize)
     requires small { Small shape page 1 }
     requires le_line { (1 ≤ line) × (line + count ≤ 257) }
-    ensures { text.new ≡ blank_lines shape (lengths lines.now pages.now) count page line text.old }
+    ensures { book.new ≡ with_text book.old (blank_lines shape (lengths book.old.lines.now book.old.pages.now) count page line book.old.text.now) }
 {
     for next in line..line + count {
-        blank_line(shape, text, lines, pages, page, next, 1);
+        blank_line(shape, book, page, next, 1);
     }
 }
 
@@ -125,7 +87,8 @@ pub fn end_after(set: bool, end: Position, x: Position) -> Position
     }
 }
 
-// Makes every length from an index on the same. It is seldom called, and what calls it stays small without its body.
+// Makes every length from an index on the same, as far as the slice goes: no caller knows its size. The length is a byte, as in
+// `put_length`. It is seldom called, and what calls it stays small without its body.
 #[tactic(auto, unfolding(rules::specs::Step::all_from))]
 #[inline(never)]
 pub fn all_from(lengths: &mut [u8], from: usize, n: usize)
@@ -175,10 +138,11 @@ pub fn stored(run: Run, count: usize, lines: &mut [u8], pages: &mut [u8]) -> Run
 
 // "Store it, c+1", and the logical end's rule. It is part of each caller too.
 #[inline(always)]
-pub fn store_character(run: Run, text: &mut [u8], lines: &mut [u8], pages: &mut [u8], b: u8) -> Run
+pub fn store_character(run: Run, book: &mut BookMut, b: u8) -> Run
     requires small { Small run.file.shape run.file.position.page run.file.position.line }
     requires le_character { (1 ≤ run.file.position.character) × (run.file.position.character ≤ 256) }
-    ensures { (state result lines.new pages.new ≡ stored_by 1 (state run lines.old pages.old)) × (text.new ≡ set text.old (character_index run.file.shape run.file.position) b) }
+    ensures memory { SameMemory book.old book.new }
+    ensures stored { (state_over result book.new ≡ stored_by 1 (state_over run book.old)) × (book.new.text.now ≡ set book.old.text.now (character_index run.file.shape run.file.position) b) }
 {
     let shape = run.file.shape;
     let i = places::character_index(
@@ -187,32 +151,16 @@ pub fn store_character(run: Run, text: &mut [u8], lines: &mut [u8], pages: &mut 
         run.file.position.line,
         run.file.position.character,
     );
-    store_byte(text, i, b);
-    stored(run, 1, lines, pages)
-}
-
-// Writes some bytes into the text.
-#[tactic(auto, using(crate::proofs::Fills::put_sets, std::proofs::lemmas::Grind::common_steps))]
-pub fn store_bytes(text: &mut [u8], at: usize, bytes: &[u8])
-    requires { at + length bytes.now ≤ length text.old }
-    ensures { text.new ≡ sets text.old at bytes.now }
-{
-    text[at..at + bytes.len()].copy_from_slice(bytes);
-}
-
-// Writes a part of some bytes into the text.
-pub fn store_run(text: &mut [u8], at: usize, bytes: &[u8], from: usize, count: usize)
-    requires { (at + count ≤ length text.old) × (from + count ≤ length bytes.now) }
-    ensures { text.new ≡ sets text.old at (take count (drop from bytes.now)) }
-{
-    store_bytes(text, at, &bytes[from..from + count]);
+    store_byte(book.text, i, b);
+    stored(run, 1, book.lines, book.pages)
 }
 
 // The writing end of a line, with the position at the logical end.
-pub fn end_line(run: Run, text: &mut [u8], lines: &mut [u8], pages: &[u8]) -> Run
+pub fn end_line(run: Run, book: &mut BookMut) -> Run
     requires small { Small run.file.shape run.file.position.page run.file.position.line }
     requires le_character { (1 ≤ run.file.position.character) × (run.file.position.character ≤ 256) }
-    ensures { done (tt {0}) (state result lines.new pages.now) text.new ≡ end_line (state run lines.old pages.now) text.old }
+    ensures memory { SameMemory book.old book.new }
+    ensures ended { done (tt {0}) (state_over result book.new) book.new.text.now ≡ end_line (state_over run book.old) book.old.text.now }
 {
     let shape = run.file.shape;
     let page = run.file.position.page;
@@ -220,39 +168,40 @@ pub fn end_line(run: Run, text: &mut [u8], lines: &mut [u8], pages: &[u8]) -> Ru
     let character = run.file.position.character;
     if run.file.rights.compress {
         let i = places::line_index(shape, page, line);
-        put_length(lines, i, character - 1);
+        put_length(book.lines, i, character - 1);
         return running::both_moved(run, page, line + 1, 1);
     }
-    blank_line(shape, text, lines, pages, page, line, character);
+    blank_line(shape, book, page, line, character);
     running::both_moved(run, page, line + 1, 1)
 }
 
 // The writing end of a page, with the position at the logical end.
-pub fn end_page(run: Run, text: &mut [u8], lines: &mut [u8], pages: &mut [u8]) -> Run
+pub fn end_page(run: Run, book: &mut BookMut) -> Run
     requires small { Small run.file.shape run.file.position.page run.file.position.line }
     requires le_character { (1 ≤ run.file.position.character) × (run.file.position.character ≤ 256) }
-    ensures { done (tt {0}) (state result lines.new pages.new) text.new ≡ end_page (state run lines.old pages.old) text.old }
+    ensures memory { SameMemory book.old book.new }
+    ensures ended { done (tt {0}) (state_over result book.new) book.new.text.now ≡ end_page (state_over run book.old) book.old.text.now }
 {
     let shape = run.file.shape;
     let page = run.file.position.page;
     let line = run.file.position.line;
     let character = run.file.position.character;
     if run.file.rights.compress {
-        if places::page_ended(run, pages) {
+        if book.page_ended(run) {
             return running::both_moved(run, page + 1, 1, 1);
         }
         let i = places::line_index(shape, page, line);
-        put_length(lines, i, character - 1);
+        put_length(book.lines, i, character - 1);
         if character == 1 {
-            put_length(pages, page - 1, line - 1);
+            put_length(book.pages, page - 1, line - 1);
             return running::both_moved(run, page + 1, 1, 1);
         }
-        put_length(pages, page - 1, line);
+        put_length(book.pages, page - 1, line);
         return running::both_moved(run, page + 1, 1, 1);
     }
-    blank_line(shape, text, lines, pages, page, line, character);
-    let size = places::page_length(pages, page);
+    blank_line(shape, book, page, line, character);
+    let size = book.page_length(page);
     let rest = size.saturating_sub(line);
-    blank_lines(shape, text, lines, pages, rest, page, line + 1);
+    blank_lines(shape, book, rest, page, line + 1);
     running::both_moved(run, page + 1, 1, 1)
 }

@@ -1,11 +1,13 @@
 -- What a part of a string's put or get leaves to the rest, from what the code's calls have given. Assumes nothing.
-use Prim.Native.Nat.{ℕ, zero, suc, ◌+◌, ◌≤◌, ◌<◌}
+use Prim.Native.Nat.{ℕ, zero, suc, ◌+◌, ◌-◌, ◌≤◌, ◌<◌}
 use native.Mathlib.Omega.{arith}
 use mathlib.Core.Path.{◌≡◌, refl, ap, ◌∙◌}
 use mathlib.Core.List.{List, [], ◌∷◌}
 use mathlib.Core.Bool.{Bool}
-use lib.ListN.{length, set, take, drop}
-use lib.Seq.{sets, drop-set-lt}
+use lib.ListN.{length, set, take, drop, length-take, length-drop}
+use borrow.Rule.Slice.PartMut.{put_mid}
+use Rattle.stores.proofs.Fills.{put_sets}
+use lib.Seq.{sets, drop-set-lt, length-sets}
 use Rattle.rules.specs.declared.Run.{Run}
 use Rattle.rules.specs.Book.{character_index, State, state, here, shape_of}
 use Rattle.rules.specs.declared.EndedCall.{EndedCall}
@@ -27,6 +29,17 @@ some_of (suc n) z = omega arith
 pub past_sets : (vs l : List ℕ) (i k : ℕ) → i + length vs ≤ k → drop k (sets l i vs) ≡ drop k l
 past_sets [] l i k h = refl
 past_sets (v ∷ vs) l i k h = past_sets vs (set l i v) (suc i) k (omega arith) ∙ drop-set-lt k l i v (omega arith)
+
+-- ---- a part of the output that is written over
+
+pub part_size : (i n : ℕ) (output : List ℕ) → i + n ≤ length output → length (take (i + n - i) (drop i output)) ≡ n
+part_size i n output h = simp (length-take, length-drop) (omega (arith, h))
+
+pub part_stored : (i n : ℕ) (output : List ℕ) {part vs : List ℕ} → i + n ≤ length output → part ≡ vs → length vs ≡ n → put_mid i (i + n - i) output part ≡ sets output i vs
+part_stored i n output {part} h e k = put_sets i (i + n - i) output part (omega (arith, h)) (ap length e ∙ k ∙ omega arith) ∙ ap (sets output i) e
+
+pub part_long : (i n : ℕ) (output part : List ℕ) → i + n ≤ length output → length part ≡ length (take (i + n - i) (drop i output)) → length (put_mid i (i + n - i) output part) ≡ length output
+part_long i n output part h k = ap length (part_stored i n output h refl (k ∙ part_size i n output h)) ∙ length-sets output i part
 
 -- ---- bounds of a run
 

@@ -2,36 +2,37 @@
 use Prim.Native.Nat.{ℕ, ◌+◌, ◌*◌, ◌-◌, ◌≤◌, ◌<◌}
 use native.Mathlib.Omega.{arith}
 use mathlib.Core.Path.{◌≡◌, refl, sym, ap, ◌∙◌}
-use mathlib.Core.List.{List, []}
-use mathlib.Core.Bool.{Bool, true, false}
-use lib.ListN.{length, get_or, set, take, drop, length-take, length-drop}
+use mathlib.Core.List.{List, [], ◌∷◌}
+use mathlib.Core.Bool.{true, false}
+use lib.ListN.{length, set, take, drop, length-take, length-drop}
 use lib.Seq.{sets, drop-set-lt, drop-drop}
 use Rattle.rules.specs.declared.Run.{Run}
 use Rattle.rules.specs.Book.{character_index, State, state, on_run, here, end_of, shape_of, moved_to, next_line, signalled_by}
-use Rattle.rules.specs.Step.{Ending, done, ends, end_line}
-use Rattle.rules.specs.Steps.{Action, good_line, at_line_end, put_character, pass_blanks, printable, spent, spent_by, measure, execute}
+use Rattle.rules.specs.Step.{Ending, Out, done, ends, end_line}
+use Rattle.rules.specs.Steps.{Action, good_line, at_line_end, put_character, pass_blanks, spent, spent_by, measure, execute}
 use Rattle.rules.specs.Ready.{Ready}
 use Rattle.rules.specs.Calls.{a_string, put_characters, string_character, get_characters}
-use Rattle.laws.specs.Runs.{on_by, stored_by, every, ordinary}
+use Rattle.laws.specs.Runs.{on_by, stored_by}
 use Rattle.laws.proofs.Progress.{site_lower, site_later, ready_on, gain_less, spent_le}
 use Rattle.laws.proofs.Ways.{post_done_of, done_of}
 use Rattle.laws.proofs.Runs.{any_character}
-use Rattle.laws.proofs.Puts.{left_ready, left_one, left_ends, left_run, one_left_ready}
+use Rattle.laws.proofs.Puts.{left_one, left_ends, left_run, one_left_ready}
 use Rattle.laws.proofs.Gets as gets
 use Rattle.lines.proofs.Good.{good_facts}
 use Rattle.turns.specs.Turns.{turns_here}
 use Rattle.turns.proofs.Turning.{turns_facts, turn_reading, turn_writing, line_again, put_again, puts_again, gets_again}
-use Rattle.strings.specs.Parts.{Room, PutOn, GotOn}
-use Rattle.strings.proofs.Parts.{some_of, past_sets, Getting}
+use Rattle.strings.specs.Parts.{Storable, Takable, PutOn, GotOn}
+use Rattle.strings.proofs.Parts.{some_of, past_sets, part_size, part_stored, Getting}
+use borrow.Rule.Slice.PartMut.{put_mid}
 
 -- ---- what is nearer the end
 
 -- one character more, and a run of them
-one_less : (row bytes : List ℕ) (w : Bool) (i : ℕ) (s : State) (t : List ℕ) → Ready row (put_character w 0) s → i < length bytes → {b : ℕ} → b ≡ get_or bytes i 0 → {u : State} {t' : List ℕ} → execute row (put_character w b) s t ≡ done tt u t'
-    → measure row (put_character w 0) u < measure row (put_character w 0) s
-one_less row bytes w i s t rd h {b} e {u} f =
-    let d = done_of row (put_character w b) t (left_ready row bytes w i s t rd h e) f in
-    (site_later row (put_character w 0) s rd (put_character w 0) u d.valid d.took (gain_less (omega arith) d.claim)).1
+one_less : (row : List ℕ) (b : ℕ) (s : State) (t : List ℕ) → Ready row (put_character true 0) s → {u : State} {t' : List ℕ} → execute row (put_character true b) s t ≡ done tt u t'
+    → measure row (put_character true 0) u < measure row (put_character true 0) s
+one_less row b s t rd {u} f =
+    let d = done_of row (put_character true b) t (any_character b rd) f in
+    (site_later row (put_character true 0) s rd (put_character true 0) u d.valid d.took (gain_less (omega arith) d.claim)).1
 
 module _ (row : List ℕ) (action : Action) (s : State) {n : ℕ} (m : 0 < n) where
   further : {u : State} → Ready row action u → spent_by u.run ≡ spent_by s.run + n * 16 → measure row action u < measure row action s
@@ -47,38 +48,44 @@ module _ (row : List ℕ) (action : Action) (s : State) {n : ℕ} (m : 0 < n) wh
 
 -- ---- put
 
-module _ (row bytes : List ℕ) (i : ℕ) (s : State) (t : List ℕ) (rd : Ready row (put_character true 0) s) (h : i < length bytes) where
-  module _ {b : ℕ} (e : b ≡ get_or bytes i 0) where
-    pub put_ends : {x : Ending} {u : State} {t' : List ℕ} → execute row (put_character true b) s t ≡ ends x u t' → put_characters row true (drop i bytes) s t ≡ ends x u t'
-    put_ends f = left_ends row bytes true i s t rd h e f
+module _ (row : List ℕ) (s : State) (t : List ℕ) (rd : Ready row (put_character true 0) s) where
+  module _ {rest others : List ℕ} {b : ℕ} (e : rest ≡ b ∷ others) where
+    first_of : {x : Out (Unit {0})} → put_characters row true (b ∷ others) s t ≡ x → put_characters row true rest s t ≡ x
+    first_of h = ap (λ (bs : List ℕ). put_characters row true bs s t) e ∙ h
 
-    pub put_one : {u : State} {t' : List ℕ} → execute row (put_character true b) s t ≡ done tt u t' → PutOn row bytes i s t 1 u t'
-    put_one f = record { same = left_one row bytes true i s t rd h e f; ready = one_left_ready row bytes true i s t rd h e f; less = one_less row bytes true i s t rd h e f; within = omega arith }
+    pub put_ends : {x : Ending} {u : State} {t' : List ℕ} → execute row (put_character true b) s t ≡ ends x u t' → put_characters row true rest s t ≡ ends x u t'
+    put_ends f = first_of (left_ends row (b ∷ others) true 0 s t rd (omega arith) refl f)
 
-  pub put_more : {size room limit n : ℕ} → Room false s size room → limit ≤ room → limit ≤ length bytes - i → n ≤ limit → every printable (take n (drop i bytes)) ≡ true → (n ≡ 0 → ⊥)
-      → {at : ℕ} → at ≡ character_index (shape_of s) (here s) → {u : State} {t' : List ℕ} → u ≡ stored_by n s → t' ≡ sets t at (take n (drop i bytes)) → PutOn row bytes i s t n u t'
-  put_more {n = n} r a b k p z e {t' = t'} hy ht =
+    pub put_one : {u : State} {t' : List ℕ} → execute row (put_character true b) s t ≡ done tt u t' → PutOn row rest s t others u t'
+    put_one f = record { same = first_of (left_one row (b ∷ others) true 0 s t rd (omega arith) refl f); ready = one_left_ready row (b ∷ others) true 0 s t rd (omega arith) refl f; less = one_less row b s t rd f }
+
+  -- n of them at once
+  pub put_more : {size n : ℕ} {rest some left : List ℕ} → Storable s size rest n → (n ≡ 0 → ⊥) → some ≡ take n rest → left ≡ drop n rest
+      → {u : State} {t' : List ℕ} → u ≡ stored_by (length some) s → t' ≡ sets t (character_index (shape_of s) (here s)) some → PutOn row rest s t left u t'
+  put_more {n = n} {rest} {some} r z es el {u} {t'} hy ht =
       let m : 0 < n = some_of n z in
-      let x = left_run row bytes true i s t rd m
-      (record { there = omega (arith, b, k); good = good_facts false s (r.good (omega (arith, a, k, m))); room = omega (arith, r.line, a, k); plain = p })
-      hy (ht ∙ ap (λ (j : ℕ). sets t j (take n (drop i bytes))) e) in
-      record { same = x.0; ready = x.1; less = stored_less row (put_character true 0) s m x.1 hy; within = omega (arith, b, k) }
+      let k : length some ≡ n = ap length es ∙ length-take n rest ∙ omega (arith, r.left) in
+      let hu : u ≡ stored_by n s = hy ∙ ap (λ (j : ℕ). stored_by j s) k in
+      let x = left_run row rest true 0 s t rd m (record { there = omega (arith, r.left); good = good_facts false s (r.room.good m); room = r.room.line; plain = r.plain }) hu (ht ∙ ap (sets t (character_index (shape_of s) (here s))) es) in
+      let z : 0 + n ≡ n = omega arith in
+      record { same = x.0 ∙ ap (λ (j : ℕ). put_characters row true (drop j rest) u t') z ∙ ap (λ (bs : List ℕ). put_characters row true bs u t') (sym el); ready = x.1; less = stored_less row (put_character true 0) s m x.1 hu }
 
   -- a turn to the next line
-  pub put_turn : turns_here row false s ≡ true → {v : Run} {t' l' p' : List ℕ} → done tt (state v l' p') t' ≡ end_line (on_run s (moved_to (signalled_by row s.run) (end_of s))) t
-      → (put_characters row true (drop i bytes) s t ≡ put_characters row true (drop i bytes) (state v l' p') t') × Ready row (put_character true 0) (state v l' p') × (measure row (put_character true 0) (state v l' p') < measure row (put_character true 0) s)
-  put_turn q {v} {t'} {l'} {p'} e =
+  pub put_turn : {rest others : List ℕ} {b : ℕ} → rest ≡ b ∷ others → turns_here row false s ≡ true → {v : Run} {t' l' p' : List ℕ} → done tt (state v l' p') t' ≡ end_line (on_run s (moved_to (signalled_by row s.run) (end_of s))) t → PutOn row rest s t rest (state v l' p') t'
+  put_turn {rest} q' q {v} {t'} {l'} {p'} e =
       let f = turns_facts row false s q in
       let u : State = state v l' p' in
       let re = (site_lower row (put_character true 0) s rd (at_line_end false true) (omega arith)).0 in
       let x = turn_writing row s t re f e in
       let d = done_of row (at_line_end false true) t re x in
       let ru = ready_on row (put_character true 0) s rd u d.valid d.took (gain_less (omega arith) d.claim) in
-      let g = line_again row false true s t (site_lower row (put_character true 0) s rd (good_line false true) (omega arith)).0 f.file f.page f.line x in (
-        puts_again row true (drop i bytes) s u t t' (simp length-drop (omega arith)) (λ b. put_again row true b s u t t' (any_character b rd) (any_character b ru) g),
-        ru,
-        (site_later row (put_character true 0) s rd (put_character true 0) u d.valid d.took d.claim).1,
-      )
+      let g = line_again row false true s t (site_lower row (put_character true 0) s rd (good_line false true) (omega arith)).0 f.file f.page f.line x in
+      let n = ap length q' in
+      record {
+        same = puts_again row true rest s u t t' (omega (arith, n)) (λ b. put_again row true b s u t t' (any_character b rd) (any_character b ru) g);
+        ready = ru;
+        less = (site_later row (put_character true 0) s rd (put_character true 0) u d.valid d.took d.claim).1;
+      }
 
 -- ---- get
 
@@ -95,15 +102,21 @@ module _ (row terminators output : List ℕ) (i : ℕ) (s : State) (t : List ℕ
     untouched = ap (drop (i + 1)) e ∙ drop-set-lt (i + 1) output i b (omega arith);
   }
 
-  pub got_more : {room limit n : ℕ} → Room true s (length t) room → limit ≤ room → limit ≤ length output - i → n ≤ limit → {at : ℕ} → at ≡ character_index (shape_of s) (here s) → every (ordinary terminators) (take n (drop at t)) ≡ true → (n ≡ 0 → ⊥)
-      → {y : Run} {output' : List ℕ} → y ≡ moved_to s.run (on_by n (here s)) → output' ≡ sets output i (take n (drop at t)) → GotOn row terminators output i s t n output' (on_run s y) t
-  got_more {n = n} r a b k {at} e p z {y} {output'} hy ho =
+  -- n of them at once, into a part of the output
+  pub got_more : {limit n : ℕ} → Takable terminators s t limit n → limit ≤ length output - i → (n ≡ 0 → ⊥) → {y : Run} {part : List ℕ} → let size = length (take (i + n - i) (drop i output)) in
+      y ≡ moved_to s.run (on_by size (here s)) → part ≡ take size (drop (character_index (shape_of s) (here s)) t) → GotOn row terminators output i s t n (put_mid i (i + n - i) output part) (on_run s y) t
+  got_more {n = n} r b z {y} {part} hy hp =
       let m : 0 < n = some_of n z in
-      let g = good_facts true s (r.good (omega (arith, a, k, m))) in
-      let x = gets.left_run row terminators (length output) i output s t rd m (omega (arith, b, k)) (omega (arith, b, k))
-      (record { before = record { page = g.0; line = omega (arith, r.line, a, k); end = omega (arith, r.end refl, a, k) }; there = omega (arith, r.there, a, k); plain = ap (λ (j : ℕ). every (ordinary terminators) (take n (drop j t))) (sym e) ∙ p })
-      hy (ho ∙ ap (λ (j : ℕ). sets output i (take n (drop j t))) e) in
-      record { same = x.0; ready = x.1; less = moved_less row pass_blanks s m x.1 hy; within = omega (arith, b, k); untouched = ap (drop (i + n)) ho ∙ past_sets (take n (drop at t)) output i (i + n) (simp length-take (omega arith)) }
+      let at : ℕ = character_index (shape_of s) (here s) in
+      let k = part_size i n output (omega (arith, r.most, b, h)) in
+      let g = good_facts true s (r.room.good m) in
+      let hs : part ≡ take n (drop at t) = hp ∙ ap (λ (j : ℕ). take j (drop at t)) k in
+      let ho = part_stored i n output (omega (arith, r.most, b, h)) hs (simp (length-take, length-drop) (omega (arith, r.room.there, m))) in
+      let hm : y ≡ moved_to s.run (on_by n (here s)) = hy ∙ ap (λ (j : ℕ). moved_to s.run (on_by j (here s))) k in
+      let x = gets.left_run row terminators (length output) i output s t rd m (omega (arith, r.most, b)) (omega (arith, r.most, b))
+      (record { before = record { page = g.0; line = r.room.line; end = r.room.end refl }; there = omega (arith, r.room.there, m); plain = r.plain })
+      hm ho in
+      record { same = x.0; ready = x.1; less = moved_less row pass_blanks s m x.1 hm; within = omega (arith, r.most, b, h); untouched = ap (drop (i + n)) ho ∙ past_sets (take n (drop at t)) output i (i + n) (simp length-take (omega arith)) }
 
   -- a turn to the next line
   got_turn : turns_here row true s ≡ true → {y : Run} → y ≡ moved_to (signalled_by row s.run) (next_line (here s))

@@ -14,11 +14,11 @@ pub record Room (reading : Bool) (s : State) (size n : ℕ) : Type 0 where
   pub end : reading ≡ true → rank (here s) + n ≤ rank (end_of s)
   pub there : n ≤ size - character_index (shape_of s) (here s)
 
--- n characters of a string, of which i are put, that can be stored at once
-pub record Storable (s : State) (size : ℕ) (bytes : List ℕ) (i n : ℕ) : Type 0 where
+-- n characters of what is left of a string, that can be stored at once
+pub record Storable (s : State) (size : ℕ) (rest : List ℕ) (n : ℕ) : Type 0 where
   pub room : Room false s size n
-  pub left : n ≤ length bytes - i
-  pub plain : every printable (take n (drop i bytes)) ≡ true
+  pub left : n ≤ length rest
+  pub plain : every printable (take n rest) ≡ true
 
 -- n characters that can be got at once, of at most a limit
 pub record Takable (terminators : List ℕ) (s : State) (t : List ℕ) (limit n : ℕ) : Type 0 where
@@ -26,12 +26,11 @@ pub record Takable (terminators : List ℕ) (s : State) (t : List ℕ) (limit n 
   pub most : n ≤ limit
   pub plain : every (ordinary terminators) (take n (drop (character_index (shape_of s) (here s)) t)) ≡ true
 
--- of a string of which i characters are put, n more are put; what goes on is nearer the end
-pub record PutOn (row bytes : List ℕ) (i : ℕ) (s : State) (t : List ℕ) (n : ℕ) (u : State) (t' : List ℕ) : Type 0 where
-  pub same : put_characters row true (drop i bytes) s t ≡ put_characters row true (drop (i + n) bytes) u t'
+-- what was left of a string is put but for what is left now; what goes on is nearer the end
+pub record PutOn (row rest : List ℕ) (s : State) (t left : List ℕ) (u : State) (t' : List ℕ) : Type 0 where
+  pub same : put_characters row true rest s t ≡ put_characters row true left u t'
   pub ready : Ready row (put_character true 0) u
   pub less : measure row (put_character true 0) u < measure row (put_character true 0) s
-  pub within : i + n ≤ length bytes
 
 -- of a string of which i characters stand in the output, n more are got; what goes on is nearer the end
 pub record GotOn (row terminators output : List ℕ) (i : ℕ) (s : State) (t : List ℕ) (n : ℕ) (output' : List ℕ) (u : State) (t' : List ℕ) : Type 0 where

@@ -4,13 +4,11 @@ use native.Mathlib.Omega.{arith}
 use mathlib.Core.Path.{◌≡◌, refl, sym, ap, ◌∙◌}
 use mathlib.Core.Bool.{Bool, true, false, not, ◌&&◌}
 use mathlib.Core.List.{List, [], ◌∷◌}
-use lib.Dec.{eqb}
 use lib.ListN.{length}
-use borrow.Author.Tests.{eqb-true, not-true}
+use borrow.Author.Tests.{not-true}
 use Rattle.rules.specs.declared.Run.{Run}
-use Rattle.rules.specs.declared.Event.TheVariants.{LineEnd}
 use Rattle.rules.specs.Book.{choose, State, state, on_run, here, end_of, moved_to, both_moved_to, next_line, signalled_by, next_word, Mending, Answer, is_false, jump, is_true, answer_of, in_mood, rights_of}
-use Rattle.rules.specs.Step.{Out, done, ends, ◌>>=◌, and_then, caught, attempt, done_by, file_ended, page_ended, line_ended, on_end_line, end_line, change, fill_line, cut_line}
+use Rattle.rules.specs.Step.{Out, done, ends, ◌>>=◌, and_then, caught, attempt, file_ended, page_ended, line_ended, on_end_line, end_line, change, fill_line, cut_line}
 use Rattle.rules.specs.Steps.{good_line, at_line_end, newline, answered, put_character, put_character_body, body, execute}
 use Rattle.rules.specs.Ready.{Ready}
 use Rattle.rules.specs.Calls.{put_characters, string_character, get_characters}
@@ -22,7 +20,7 @@ use Rattle.laws.proofs.Cases.{newline_page, newline_closes, held_again}
 use Rattle.laws.proofs.Lines.{law_good_line, good_line_page, good_page_at_once, line_end_splits, line_end_answered, answered_newline, written_done}
 use Rattle.places.specs.Good.{page_good}
 use Rattle.places.proofs.Goods.{page_good_facts}
-use Rattle.turns.specs.Turns.{in_mood_of, newline_after, newline_follows, turns_here}
+use Rattle.turns.specs.Turns.{newline_after, newline_follows, turns_here}
 
 no : {A : Type 0} → true ≡ false → A
 no p = absurd (let o : ◌≡◌ {A = ℕ} 0 1 = cc in omega arith)

@@ -4,10 +4,10 @@ use native.Mathlib.Omega.{arith}
 use mathlib.Core.Path.{◌≡◌, refl, sym, ap, subst, ◌∙◌}
 use mathlib.Core.Bool.{Bool, true, false}
 use mathlib.Core.List.{List, [], ◌∷◌}
-use lib.Dec.{T, eqb}
+use lib.Dec.{T}
 use lib.ListN.{length, take, drop, length-drop}
 use lib.Seq.{length-take-le, take-length}
-use borrow.Author.Tests.{eq-eqb, ne_eqb, eqb-true, eqb-false}
+use borrow.Author.Tests.{eq-eqb, ne_eqb}
 use Rattle.rules.specs.declared.Position.{Position}
 use Rattle.rules.specs.declared.File.{File}
 use Rattle.rules.specs.declared.Run.{Run}
@@ -46,12 +46,12 @@ shown_small p l n s fits e =
 
 -- ---- what a checked book keeps
 
-pub checked_facts : (b : CheckedBook) → Fits (length b.text.now) (state_of b)
-checked_facts b = let s = state_of b in fits_facts (length b.text.now) s (subst T (sym b.fits) tt)
+pub checked_facts : (b : CheckedBook) → Fits (length b.book.text.now) (state_of b)
+checked_facts b = let s = state_of b in fits_facts (length b.book.text.now) s (subst T (sym b.fits) tt)
 
 -- what the code asks before it computes a shown line's span
 pub shown_in_checked : (b : CheckedBook) (p l : ℕ) → shown p l (state_of b) ≡ true → Small b.run.file.shape p l × (1 ≤ b.run.end.character)
-shown_in_checked b p l e = (shown_small p l (length b.text.now) (state_of b) (checked_facts b) e, (checked_facts b).valid.end_in.character_low)
+shown_in_checked b p l e = (shown_small p l (length b.book.text.now) (state_of b) (checked_facts b) e, (checked_facts b).valid.end_in.character_low)
 
 -- ---- what the span decides
 

@@ -7,9 +7,9 @@ use Rattle.entry.specs.Before.{before_work}
 use Rattle.views.specs.declared.checked.CheckedBook.{CheckedBook}
 
 abbrev pub state_of : CheckedBook → State
-state_of b = state b.run b.lines.now b.pages.now
+state_of b = state b.run b.book.lines.now b.book.pages.now
 
 -- the book is what was lent, or the first test that fails
 abbrev pub Checks : Run → List ℕ → List ℕ → List ℕ → Result CheckedBook Refusal → Type 0
-Checks r t ls ps (Ok b) = (before_work (length t) (state r ls ps) ≡ Ok tt) × (b.run ≡ r) × (b.text.now ≡ t) × (b.lines.now ≡ ls) × (b.pages.now ≡ ps)
+Checks r t ls ps (Ok b) = (before_work (length t) (state r ls ps) ≡ Ok tt) × (b.run ≡ r) × (b.book.text.now ≡ t) × (b.book.lines.now ≡ ls) × (b.book.pages.now ≡ ps)
 Checks r t ls ps (Err n) = before_work (length t) (state r ls ps) ≡ Err n

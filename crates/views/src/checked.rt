@@ -3,16 +3,15 @@ ghost use Rattle.std.specs.Prelude.{◌≡◌, true, length};
 ghost use Rattle.rules.specs.Book.{state, all_fits};
 
 use crate::{Span, is_shown, shown_length};
+use places::BookRef;
 use rules::{Refusal, Run};
 
 // A book that passed the tests before work, and keeps what they found as a fact of its type.
 #[derive(Clone, Copy)]
 pub struct CheckedBook<'a> {
     pub run: Run,
-    pub text: &'a [u8],
-    pub lines: &'a [u8],
-    pub pages: &'a [u8],
-    pub ghost fits: { all_fits (length text.now) (state run lines.now pages.now) ≡ true },
+    pub book: BookRef<'a>,
+    pub ghost fits: { all_fits (length book.text.now) (state run book.lines.now book.pages.now) ≡ true },
 }
 
 impl<'a> CheckedBook<'a> {
@@ -20,21 +19,11 @@ impl<'a> CheckedBook<'a> {
     ghost use Rattle.views.specs.Spans.{line_or_none};
 
     // The book, or the first test before work that it fails: 1, then 3.
-    pub fn check(
-        run: Run,
-        text: &'a [u8],
-        lines: &'a [u8],
-        pages: &'a [u8],
-    ) -> Result<CheckedBook<'a>, Refusal>
-        ensures { Checks run text.now lines.now pages.now result }
+    pub fn check(run: Run, book: BookRef<'a>) -> Result<CheckedBook<'a>, Refusal>
+        ensures { Checks run book.entry.text.now book.entry.lines.now book.entry.pages.now result }
     {
-        match entry::test_book(run, text, lines, pages) {
-            Ok(()) => Ok(CheckedBook {
-                run,
-                text,
-                lines,
-                pages,
-            }),
+        match entry::test_book(run, &book) {
+            Ok(()) => Ok(CheckedBook { run, book }),
             Err(refusal) => Err(refusal),
         }
     }
@@ -44,12 +33,12 @@ impl<'a> CheckedBook<'a> {
     pub fn line_span(&self, page: usize, line: usize) -> Option<Span>
         ensures { result ≡ line_or_none page line (state_of self.now) }
     {
-        if !is_shown(self.run, page, line, self.lines, self.pages) {
+        if !is_shown(self.run, page, line, &self.book) {
             return None;
         }
         Some(Span {
             from: places::character_index(self.run.file.shape, page, line, 1),
-            count: shown_length(self.run, page, line, self.lines, self.pages),
+            count: shown_length(self.run, page, line, &self.book),
         })
     }
 }

@@ -1,17 +1,16 @@
 -- The digits of a number, counted, and stored from right to left. Assumes nothing.
-use Prim.Native.Nat.{ℕ, zero, suc, ◌+◌, ◌-◌, ◌*◌, ◌/◌, ◌%◌, ◌≤◌, ◌<◌}
+use Prim.Native.Nat.{ℕ, zero, suc, ◌+◌, ◌*◌, ◌/◌, ◌%◌, ◌≤◌, ◌<◌}
 use native.Mathlib.Omega.{arith}
 use native.Mathlib.Decide.{dec_lt}
 use mathlib.Core.Path.{◌≡◌, refl, sym, ap, subst, ◌∙◌}
 use mathlib.Core.Logic.{◌⊎◌, inl, inr, ⊎_elim}
 use mathlib.Core.Bool.{Bool}
 use mathlib.Core.List.{List, [], ◌∷◌, ◌++◌, append_assoc, append-nil}
-use lib.ListN.{length, set, length-append}
-use lib.Seq.{sets}
+use lib.ListN.{length, set, drop, length-append}
+use Rattle.std.proofs.lemmas.Grind.{common_steps}
 use borrow.Author.Tests.{lt-ltb, le-ltb}
 use Rattle.rules.specs.Book.{choose}
 use Rattle.rules.specs.Whole.{digits_up_to, digits}
-use Rattle.whole.proofs.Joined.{set_left}
 
 -- a number of at most k + 1 digits is below this
 abbrev most : ℕ → ℕ
@@ -42,49 +41,33 @@ length_up_to (suc k) m = ⊎_elim (λ h. omega (arith, ap length (one_digit k m 
 pub at_most_ten : (n : ℕ) → length (digits n) ≤ 10
 at_most_ten n = length_up_to 10 n
 
-pub some_digit : (k m : ℕ) → 0 < length (digits_up_to (suc k) m)
-some_digit k m = ⊎_elim (λ h. omega (arith, ap length (one_digit k m h))) (λ h. omega (arith, more_length k m h)) (lt_or_ge m 10)
+drop_set : (l : List ℕ) (i a : ℕ) → i < length l → a ∷ drop (suc i) l ≡ drop i (set l i a)
+drop_set [] i a h = absurd (omega arith)
+drop_set (x ∷ l) zero a h = refl
+drop_set (x ∷ l) (suc i) a h = drop_set l i a (omega arith)
 
--- ---- the loop that stores: the digits of m are still to come, and those right of them are stored from i on
+-- ---- the loop that stores: the last k digits of m are still to come
 
-pub record Stored (l₀ : List ℕ) (end n : ℕ) (l : List ℕ) (i m : ℕ) : Type 0 where
-  pub fuel : ℕ
-  pub right : List ℕ
-  pub list : l ≡ sets l₀ i right
-  pub text : digits n ≡ digits_up_to (suc fuel) m ++ right
-  pub small : m < most fuel
-  pub room : length (digits_up_to (suc fuel) m) ≤ i
-  pub count : i + length right ≡ end
+unfoldable pub last : ℕ → ℕ → List ℕ
+last zero m = []
+last (suc k) m = last k (m / 10) ++ ((48 + m % 10) ∷ [])
 
-pub stored_none : (l : List ℕ) (end n : ℕ) → length (digits n) ≤ end → n < 4294967296 → Stored l end n l end n
-stored_none l end n h k = record { fuel = 9; right = []; list = refl; text = sym (append-nil (digits_up_to 10 n)); small = omega arith; room = h; count = omega arith }
+last_all : (k m : ℕ) → digits_up_to k m ≡ last (length (digits_up_to k m)) m
+unfolding digits_up_to last
+last_all zero m = refl
+last_all (suc k) m = ⊎_elim
+    (λ h. one_digit k m h ∙ ap (λ (x : List ℕ). last (length x) m) (sym (one_digit k m h)))
+    (λ h. let e : suc (length (digits_up_to k (m / 10))) ≡ length (digits_up_to (suc k) m) = omega (arith, more_length k m h) in
+    more_digits_lem k m h ∙ ap (λ (x : List ℕ). x ++ ((48 + m % 10) ∷ [])) (last_all k (m / 10)) ∙ ap (λ (j : ℕ). last j m) e)
+    (lt_or_ge m 10)
 
-module _ (l₀ : List ℕ) (end n : ℕ) (l : List ℕ) (i m : ℕ) (w : Stored l₀ end n l i m) {l' : List ℕ} (e : l' ≡ set l (i - 1) (48 + m % 10)) where
-  one_more : l' ≡ sets l₀ (i - 1) ((48 + m % 10) ∷ w.right)
-  one_more =
-      let k : suc (i - 1) ≡ i = omega (arith, w.room, some_digit w.fuel m) in
-      e ∙ ap (λ (x : List ℕ). set x (i - 1) (48 + m % 10)) w.list ∙ set_left w.right l₀ i (i - 1) (48 + m % 10) (omega arith)
-      ∙ ap (λ (j : ℕ). sets (set l₀ (i - 1) (48 + m % 10)) j w.right) (sym k)
+pub stored_none : (l : List ℕ) (n : ℕ) → length l ≡ length (digits n) → digits n ≡ last (length l) n ++ drop (length l) l
+stored_none l n h = last_all 10 n ∙ ap (λ (k : ℕ). last k n) (sym h) ∙ sym (append-nil _) ∙ ap (λ (x : List ℕ). last (length l) n ++ x) (grind (arith, common_steps))
 
-  next : 10 ≤ m → (k : ℕ) → w.fuel ≡ k → Stored l₀ end n l' (i - 1) (m / 10)
-  next h zero z = absurd (omega (arith, subst (λ (f : ℕ). m < most f) z w.small))
-  next h (suc k) z = record {
-    fuel = k;
-    right = (48 + m % 10) ∷ w.right;
-    list = one_more;
-    text = w.text ∙ ap (λ (f : ℕ). digits_up_to (suc f) m ++ w.right) z ∙ ap (λ (x : List ℕ). x ++ w.right) (more_digits_lem (suc k) m h) ∙ append_assoc (digits_up_to (suc k) (m / 10)) ((48 + m % 10) ∷ []) w.right;
-    small = omega (arith, subst (λ (f : ℕ). m < most f) z w.small);
-    room = omega (arith, subst (λ (f : ℕ). length (digits_up_to (suc f) m) ≤ i) z w.room, more_length (suc k) m h);
-    count = omega (arith, w.count, w.room, some_digit w.fuel m);
-  }
-
-  pub stored_more : (m / 10 ≡ 0 → ⊥) → Stored l₀ end n l' (i - 1) (m / 10)
-  stored_more h = next (⊎_elim (λ b. absurd (h (omega arith))) (λ b. b) (lt_or_ge m 10)) w.fuel refl
-
-  pub stored_all : m / 10 ≡ 0 → (i - 1 + length (digits n) ≡ end) × (l' ≡ sets l₀ (i - 1) (digits n))
-  stored_all h =
-      let t : digits n ≡ (48 + m % 10) ∷ w.right = w.text ∙ ap (λ (x : List ℕ). x ++ w.right) (one_digit w.fuel m (omega arith)) in
-      (omega (arith, ap length t, w.count, w.room, some_digit w.fuel m), one_more ∙ ap (λ (x : List ℕ). sets l₀ (i - 1) x) (sym t))
+pub stored_more : (l t : List ℕ) (i j m : ℕ) → i ≡ suc j → j < length l → t ≡ last i m ++ drop i l → t ≡ last j (m / 10) ++ drop j (set l j (48 + m % 10))
+unfolding last
+stored_more l t i j m is-i h e =
+    e ∙ ap (λ (k : ℕ). last k m ++ drop k l) is-i ∙ append_assoc (last j (m / 10)) ((48 + m % 10) ∷ []) (drop (suc j) l) ∙ ap (λ (x : List ℕ). last j (m / 10) ++ x) (drop_set l j (48 + m % 10) h)
 
 -- ---- the loop that counts
 

@@ -4,17 +4,16 @@ use native.Mathlib.Omega.{arith}
 use native.Mathlib.Decide.{dec_lt}
 use mathlib.Core.Path.{◌≡◌, refl, sym, ap, subst, ◌∙◌}
 use mathlib.Core.Bool.{Bool, true, false}
-use mathlib.Core.List.{List, [], ◌++◌}
+use mathlib.Core.List.{List, ◌++◌}
 use lib.Dec.{leb}
-use lib.ListN.{length, drop, replicate, length-append, length-replicate}
-use lib.Seq.{sets, sets-eq}
+use lib.ListN.{length, take, drop, replicate, length-append, length-replicate}
+use Rattle.std.proofs.lemmas.List.{length-take}
 use lib.IntN.{ℤ, pos, negsuc, nat_abs}
 use lib.Signed.{lt_z}
 use borrow.Author.Tests.{le-leb, lt-leb, lt-ltb, le-ltb}
 use Rattle.rules.specs.Whole.{digits, signed, padded, whole_text, lowest, refused_whole, whole}
 use Rattle.whole.specs.Marked.{negative, signs, marked}
 use Rattle.whole.specs.Refused.{Writes}
-use Rattle.whole.proofs.Joined.{sets_left}
 
 -- an integer with its sign is its sign and its absolute value
 pub signed_is : (plus : Bool) (v : ℤ) → marked plus (negative v) (nat_abs v) ≡ signed plus v
@@ -45,22 +44,18 @@ length-padded w t = elim (dec_lt w (length t)) [
 ]
 
 -- what the code has counted: the sign's characters and the digits
-module _ (l : List ℕ) (at width : ℕ) (plus below : Bool) (n : ℕ) {s d : ℕ} (is-s : s ≡ length (signs plus below)) (is-d : d ≡ length (digits n)) where
+module _ (width : ℕ) (plus below : Bool) (n : ℕ) {s d : ℕ} (is-s : s ≡ length (signs plus below)) (is-d : d ≡ length (digits n)) where
   pub size_is : s + d ≡ length (marked plus below n)
   size_is = sym (length-append (signs plus below) (digits n) ∙ omega (arith, is-s, is-d))
 
-  pub starred : width < s + d → {l' : List ℕ} → l' ≡ sets l at (replicate width 42) → l' ≡ sets l at (padded width (marked plus below n))
-  starred h e = e ∙ ap (λ (x : List ℕ). sets l at x) (sym (padded_not width (marked plus below n) (omega (arith, size_is))))
+  pub starred : width < s + d → {l : List ℕ} → l ≡ replicate width 42 → l ≡ padded width (marked plus below n)
+  starred h e = e ∙ sym (padded_not width (marked plus below n) (omega (arith, size_is)))
 
-  pub made : s + d ≤ width → {first : ℕ} (start : ℕ) {l₁ l₂ l₃ : List ℕ} → (first + length (digits n) ≡ at + width) × (l₁ ≡ sets l first (digits n)) → (start + length (signs plus below) ≡ first) × (l₂ ≡ sets l₁ start (signs plus below))
-      → l₃ ≡ sets l₂ at (replicate (start - at) 32) → l₃ ≡ sets l at (padded width (marked plus below n))
-  made h {first} start {l₁} {l₂} a b e =
-      let j : start - at ≡ width - length (marked plus below n) = omega (arith, size_is, a.0, b.0, is-s, is-d) in
-      let r : at + length (replicate {A = ℕ} (start - at) 32) ≡ start = omega (arith, length-replicate {A = ℕ} (start - at) 32, size_is, a.0, b.0, is-s, is-d) in
-      e ∙ ap (λ (x : List ℕ). sets x at (replicate (start - at) 32)) (b.1 ∙ ap (λ (x : List ℕ). sets x start (signs plus below)) a.1 ∙ sets_left (signs plus below) (digits n) l first start b.0)
-      ∙ sets_left (replicate (start - at) 32) (marked plus below n) l start at r
-      ∙ ap (λ (k : ℕ). sets l at (replicate k 32 ++ marked plus below n)) j
-      ∙ ap (λ (x : List ℕ). sets l at x) (sym (padded_fits width (marked plus below n) (omega (arith, size_is))))
+  pub made : s + d ≤ width → {b : ℕ} {blanks sign text : List ℕ} → b ≡ width - (s + d) → blanks ≡ replicate b 32 → sign ≡ signs plus below → text ≡ digits n
+      → blanks ++ (sign ++ text) ≡ padded width (marked plus below n)
+  made h {blanks = blanks} is-b x y z =
+      let left : blanks ≡ replicate (width - length (marked plus below n)) 32 = x ∙ ap (λ (k : ℕ). replicate k 32) (is-b ∙ ap (λ (k : ℕ). width - k) size_is) in
+      (λ i. left i ++ (y i ++ z i)) ∙ sym (padded_fits width (marked plus below n) (omega (arith, size_is)))
 
 -- ---- every whole(v, w) is a padded text, at its own length
 
@@ -83,9 +78,9 @@ whole-padded v (negsuc w) = ap (λ (n : ℕ). padded n (signed false v)) (sym (l
 
 -- ---- the code's calls
 
-pub eleven_of : (v : ℤ) (l : List ℕ) (at : ℕ) {n : ℕ} {below : Bool} → n ≡ nat_abs v → below ≡ negative v → {l' : List ℕ} → l' ≡ sets l at (padded 11 (marked true below n)) → l' ≡ sets l at (whole_text v (pos 11))
+pub eleven_of : (v : ℤ) {n : ℕ} {below : Bool} → n ≡ nat_abs v → below ≡ negative v → {text : List ℕ} → text ≡ padded 11 (marked true below n) → text ≡ whole_text v (pos 11)
 unfolding whole_text
-eleven_of v l at {n} {below} is-n is_b e = e ∙ ap (λ (x : List ℕ). sets l at (padded 11 x)) (ap (λ (m : ℕ). marked true below m) is-n ∙ ap (λ (b : Bool). marked true b (nat_abs v)) is_b ∙ signed_is true v)
+eleven_of v is-n is_b e = e ∙ (λ i. padded 11 (marked true (is_b i) (is-n i))) ∙ ap (padded 11) (signed_is true v)
 
 pub length_as_read : {v v' w w' : ℤ} → v ≡ v' → w ≡ w' → length (whole_text v w) ≡ length (whole_text v' w')
 length_as_read p q = λ i. length (whole_text (p i) (q i))
@@ -96,7 +91,7 @@ writes_as_read {room = room} {width = width} p q h = subst (λ (x : ℤ × ℤ).
 pub width_shortest : (v w : ℤ) → w ≡ pos 0 → {s d n : ℕ} → s ≡ length (signs false (negative v)) → d ≡ length (digits n) → n ≡ nat_abs v → s + d ≡ length (whole_text v w)
 unfolding whole_text
 width_shortest v w z {s} {d} {n} is-s is-d is-n =
-    size_is [] 0 0 false (negative v) n is-s is-d ∙ ap (λ (m : ℕ). length (marked false (negative v) m)) is-n ∙ ap length (signed_is false v) ∙ ap (λ (k : ℤ). length (whole_text v k)) (sym z)
+    size_is 0 false (negative v) n is-s is-d ∙ ap (λ (m : ℕ). length (marked false (negative v) m)) is-n ∙ ap length (signed_is false v) ∙ ap (λ (k : ℤ). length (whole_text v k)) (sym z)
 
 pub width_given : (v w : ℤ) → (w ≡ pos 0 → ⊥) → {n : ℕ} → n ≡ nat_abs w → n ≡ length (whole_text v w)
 width_given v w z e = e ∙ sym (length_whole v w z)
@@ -116,14 +111,12 @@ module _ (v w : ℤ) (l : List ℕ) where
       unfolding whole
       whole_12 h = rw (low, le-leb (nat_abs w) 255 (omega arith), lt-ltb (length l) (length (whole_text v w)) (omega (arith, e)))
 
-      pub whole_0 : width ≤ length l → {n : ℕ} {below plus : Bool} → n ≡ nat_abs v → below ≡ negative v → plus ≡ lt_z (pos 0) w → {l' : List ℕ} → l' ≡ sets l 0 (padded width (marked plus below n))
-          → record { number = 0; count = width; buffer = l' } ≡ whole v w l
+      pub whole_0 : width ≤ length l → {n : ℕ} {below plus : Bool} → n ≡ nat_abs v → below ≡ negative v → plus ≡ lt_z (pos 0) w → {field : List ℕ} → field ≡ padded (length (take width l)) (marked plus below n)
+          → record { number = 0; count = width; buffer = field ++ drop width l } ≡ whole v w l
       unfolding whole
-      whole_0 h {n} {below} {plus} is-n is_b is-p {l'} k =
-          let z : 0 + length (whole_text v w) ≡ length (whole_text v w) = omega arith in
-          let t : l' ≡ whole_text v w ++ drop (length (whole_text v w)) l
-          = k ∙ ap (λ (x : List ℕ). sets l 0 (padded width x)) (ap (λ (m : ℕ). marked plus below m) is-n ∙ ap (λ (b : Bool). marked plus b (nat_abs v)) is_b ∙ signed_is plus v ∙ ap (λ (p : Bool). signed p v) is-p)
-          ∙ ap (λ (m : ℕ). sets l 0 (padded m (signed (lt_z (pos 0) w) v))) e ∙ ap (λ (x : List ℕ). sets l 0 x) (sym (whole-padded v w))
-          ∙ sets-eq (whole_text v w) l 0 (omega (arith, e)) ∙ ap (λ (m : ℕ). whole_text v w ++ drop m l) z in
-          ap (λ (m : ℕ). record { number = 0; count = m; buffer = l' }) e ∙ ap (λ (x : List ℕ). record { number = 0; count = length (whole_text v w); buffer = x }) t
+      whole_0 h {n} {below} {plus} is-n is_b is-p {field} k =
+          let size : length (take width l) ≡ length (whole_text v w) = omega (arith, length-take width l, e) in
+          let t : field ≡ whole_text v w
+          = k ∙ (λ i. padded (size i) (marked (is-p i) (is_b i) (is-n i))) ∙ ap (padded (length (whole_text v w))) (signed_is (lt_z (pos 0) w) v) ∙ sym (whole-padded v w) in
+          (λ i. record { number = 0; count = e i; buffer = t i ++ drop (e i) l })
           ∙ rw (low, le-leb (nat_abs w) 255 (omega arith), le-ltb (length l) (length (whole_text v w)) (omega (arith, e))) refl

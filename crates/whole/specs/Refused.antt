@@ -1,13 +1,6 @@
 -- What is known where whole writes, and where it is refused.
 use Rattle.std.specs.Prelude.{◌≡◌, ◌≤◌, ◌<◌, ℕ, false, List, length, ℤ, nat_abs}
 use Rattle.rules.specs.Whole.{whole_text, lowest, refused_whole, whole}
-use Rattle.whole.specs.declared.Refusal.{Refusal}
-use Rattle.whole.specs.declared.Refusal.TheVariants.{TooLarge, WidthOutOfRange, OutputTooShort}
-
-abbrev pub number_of : Refusal → ℕ
-number_of TooLarge = 9
-number_of WidthOutOfRange = 6
-number_of OutputTooShort = 12
 
 -- the text is so wide, and an output of this length has room for it
 pub record Writes (v w : ℤ) (room width : ℕ) : Type 0 where

@@ -1,11 +1,14 @@
-// whole(v, w): an integer as a text, written digit by digit into a lent slice. A store past the slice's end is left out.
+// whole(v, w): an integer as a text, written digit by digit into a lent slice.
 #![tactic(auto)]
 
-ghost use Rattle.std.specs.Prelude.{◌≡◌, ◌+◌, ◌≤◌, ◌<◌, ◌^◌, true, length, replicate, nat_abs, pos, option_to_list, IfOk, IfErr};
+ghost use Rattle.std.specs.Prelude.{◌≡◌, ◌<◌, ◌^◌, length, nat_abs, pos, option_to_list, IfOk, IfErr};
 ghost use Rattle.std.proofs.lemmas.List.Edits.{sets};
-ghost use Rattle.rules.specs.Whole.{digits, padded, whole_text, Written, whole};
+ghost use Rattle.rules.specs.Step.{refusal_number};
+ghost use Rattle.rules.specs.Whole.{digits, padded, whole_text, whole};
 ghost use Rattle.whole.specs.Marked.{negative, signs, marked};
-ghost use Rattle.whole.specs.Refused.{number_of, Writes, Refuses};
+ghost use Rattle.whole.specs.Refused.{Writes, Refuses};
+
+use rules::Refusal;
 
 // Whether an integer is below 0.
 pub fn is_negative(v: i32) -> bool
@@ -42,20 +45,18 @@ pub fn sign_count(plus: bool, negative: bool) -> usize
     usize::from(negative || plus)
 }
 
-// The digits of a number, ending before an index. Gives where they start.
-pub fn put_digits(output: &mut [u8], end: usize, n: u32) -> usize
-    requires { length (digits n) ≤ end }
-    ensures { (result + length (digits n) ≡ end) × (output.new ≡ sets output.old result (digits n)) }
+// The digits of a number, in as many places.
+pub fn put_digits(places: &mut [u8], n: u32)
+    requires { length places.old ≡ length (digits n) }
+    ensures { places.new ≡ digits n }
 {
     let mut m = n;
-    for i in (0..end).rev() {
-        stores::store_byte(output, i, b'0' + (m % 10) as u8);
+    // By index: over `iter_mut().rev()` no invariant can name what is written so far.
+    for i in (0..places.len()).rev() {
+        // Below 10: `try_from` would add an arm that no call reaches.
+        places[i] = b'0' + (m % 10) as u8;
         m /= 10;
-        if m == 0 {
-            return i;
-        }
     }
-    0
 }
 
 // The sign that is shown, if one is.
@@ -71,41 +72,43 @@ pub fn shown_sign(plus: bool, negative: bool) -> Option<u8>
     }
 }
 
-// The sign, if one is shown, ending before an index. Gives where it starts.
-pub fn put_sign(output: &mut [u8], end: usize, plus: bool, negative: bool) -> usize
-    requires { length (signs plus negative) ≤ end }
-    ensures { (result + length (signs plus negative) ≡ end) × (output.new ≡ sets output.old result (signs plus negative)) }
+// The sign, in one place if it is shown, and in none if not.
+pub fn put_sign(places: &mut [u8], plus: bool, negative: bool)
+    requires { length places.old ≡ length (signs plus negative) }
+    ensures { places.new ≡ signs plus negative }
 {
-    match shown_sign(plus, negative) {
-        Some(sign) => {
-            stores::store_byte(output, end - 1, sign);
-            end - 1
-        }
-        None => end,
+    if let Some(sign) = shown_sign(plus, negative) {
+        places.fill(sign);
     }
 }
 
-// Some width of characters from an index on: the sign and the digits with blanks on the left, or asterisks.
-pub fn put_padded(output: &mut [u8], at: usize, width: usize, plus: bool, negative: bool, n: u32)
-    requires { at + width < 2 ^ 32 }
-    ensures { output.new ≡ sets output.old at (padded width (marked plus negative n)) }
+// The sign and the digits of a number over all of a field, with blanks on the left, or asterisks where they do not fit.
+pub fn put_padded(field: &mut [u8], plus: bool, negative: bool, n: u32)
+    ensures { field.new ≡ padded (length field.old) (marked plus negative n) }
 {
-    let size = sign_count(plus, negative) + digit_count(n);
-    if width < size {
-        stores::fill(output, at, width, b'*');
+    let signs = sign_count(plus, negative);
+    let size = signs + digit_count(n);
+    if field.len() < size {
+        field.fill(b'*');
         return;
     }
-    let first = put_digits(output, at + width, n);
-    let start = put_sign(output, first, plus, negative);
-    stores::fill(output, at, start - at, b' ');
+    let (blanks, text) = field.split_at_mut(field.len() - size);
+    let (sign, digits) = text.split_at_mut(signs);
+    blanks.fill(b' ');
+    put_sign(sign, plus, negative);
+    put_digits(digits, n);
 }
 
-// The text whole(v, 11) from an index on.
+// The text whole(v, 11) from an index on. What lies past the slice's end is left out, since no caller knows the slice's size.
 pub fn put_whole(output: &mut [u8], at: usize, v: i32)
     requires { (nat_abs v < 2147483648) × (at < 2 ^ 31) }
     ensures { output.new ≡ sets output.old at (whole_text v (pos 11)) }
 {
-    put_padded(output, at, 11, true, v < 0, v.unsigned_abs());
+    let mut text = [b' '; 11];
+    put_padded(&mut text, true, v < 0, v.unsigned_abs());
+    for (i, byte) in text.iter().enumerate() {
+        stores::store_byte(output, at + i, *byte);
+    }
 }
 
 // How many characters whole(v, w) has.
@@ -116,6 +119,7 @@ pub fn width_of(v: i32, w: i32) -> usize
     if w == 0 {
         sign_count(false, v < 0) + digit_count(v.unsigned_abs())
     } else {
+        // The library has no From<u32> for usize.
         w.unsigned_abs() as usize
     }
 }
@@ -128,24 +132,16 @@ pub struct Wrote {
     pub count: usize,
 }
 
-// Why whole(v, w) is refused before anything is written, each with its number.
-#[derive(Clone, Copy)]
-pub enum Refusal {
-    WidthOutOfRange = 6,
-    TooLarge = 9,
-    OutputTooShort = 12,
-}
-
 // How many characters whole(v, w) writes into an output that has room for so many, or why it is refused.
 pub fn width_for(v: i32, w: i32, room: usize) -> Result<usize, Refusal>
     ensures ok { IfOk result (λ width. Writes v w room width) }
-    ensures err { IfErr result (λ refusal. Refuses v w room (number_of refusal)) }
+    ensures err { IfErr result (λ refusal. Refuses v w room (refusal_number refusal)) }
 {
     if v == i32::MIN {
         return Err(Refusal::TooLarge);
     }
     if 255 < w.unsigned_abs() {
-        return Err(Refusal::WidthOutOfRange);
+        return Err(Refusal::OutOfRange);
     }
     let width = width_of(v, w);
     if room < width {
@@ -160,14 +156,14 @@ pub fn whole(v: i32, w: i32, output: &mut [u8]) -> Wrote
 {
     match width_for(v, w, output.len()) {
         Ok(width) => {
-            put_padded(output, 0, width, 0 < w, v < 0, v.unsigned_abs());
+            put_padded(&mut output[..width], 0 < w, v < 0, v.unsigned_abs());
             Wrote {
                 number: 0,
                 count: width,
             }
         }
         Err(refusal) => Wrote {
-            number: refusal as u8,
+            number: refusal.number(),
             count: 0,
         },
     }

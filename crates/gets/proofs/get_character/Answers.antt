@@ -5,10 +5,10 @@ use Rattle.gets.proofs.Gets.{character_refused, character_got}
 use Rattle.gets.proofs.get_character.Goals as goal
 
 pub one_character-requires : goal.one_character-requires
-one_character-requires c = record { ready = begun_ready c.args.row.now c.args.file c.args.end c.args.text.now c.args.lines.now c.args.pages.now true c.start-start.ensures c.prepared.ensures c.in-Ok.is Action.pass_blanks; row_good = begun_row c.args.row.now c.args.file c.args.end c.args.text.now c.args.lines.now c.args.pages.now true c.start-start.ensures c.prepared.ensures c.in-Ok.is }
+one_character-requires c = record { ready = begun_ready c.args.row.now c.args.file c.args.end c.args.book.now.text.now c.args.book.now.lines.now c.args.book.now.pages.now true c.start-start.ensures c.prepared.ensures c.in-Ok.is Action.pass_blanks; row_good = begun_row c.args.row.now c.args.file c.args.end c.args.book.now.text.now c.args.book.now.lines.now c.args.book.now.pages.now true c.start-start.ensures c.prepared.ensures c.in-Ok.is }
 
-pub returns-in-Ok : goal.returns-in-Ok
-returns-in-Ok c = character_got c.args.row.now c.args.file c.args.end c.args.text.now c.args.lines.now c.args.pages.now c.start-start.ensures c.prepared.ensures c.in-Ok.is c.one_character.result _ _ _ c.one_character.ensures c.given.ensures
+pub returns-in-Ok-clause-answer : goal.returns-in-Ok-clause-answer
+returns-in-Ok-clause-answer c = character_got c.args.row.now c.args.file c.args.end c.args.book.now.text.now c.args.book.now.lines.now c.args.book.now.pages.now c.start-start.ensures c.prepared.ensures c.in-Ok.is c.one_character.result _ _ _ c.one_character.ensures.outcome c.given.ensures
 
-pub returns-in-Err : goal.returns-in-Err
-returns-in-Err c = character_refused c.args.row.now c.args.file c.args.end c.args.text.now c.args.lines.now c.args.pages.now c.start-start.ensures c.prepared.ensures c.in-Err.is c.ended.ensures
+pub returns-in-Err-clause-answer : goal.returns-in-Err-clause-answer
+returns-in-Err-clause-answer c = character_refused c.args.row.now c.args.file c.args.end c.args.book.now.text.now c.args.book.now.lines.now c.args.book.now.pages.now c.start-start.ensures c.prepared.ensures c.in-Err.is c.ended.ensures

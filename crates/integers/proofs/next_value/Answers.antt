@@ -1,7 +1,7 @@
 use native.Mathlib.Omega.{arith}
 use Rattle.integers.proofs.Sums.{digit_low, above_stays, below_next, above_next}
-use Prim.Native.Nat.{◌+◌, ◌*◌, ◌-◌}
-use mathlib.Core.Path.{sym, ◌∙◌, ap}
+use Prim.Native.Nat.{◌+◌, ◌*◌}
+use mathlib.Core.Path.{◌∙◌, ap}
 use Prim.Native.Nat.{ℕ}
 use Rattle.laws.specs.Capped.{capped}
 use Rattle.integers.proofs.next_value.Goals as goal

@@ -9,5 +9,5 @@ put_whole-requires c = (omega (arith, c.requires.v_bound, read_absolute _ c.rang
 pub stored-requires : goal.stored-requires
 stored-requires c = record { small = c.requires.small; count_bound = omega (arith, c.requires.le_character.1) }
 
-pub returns : goal.returns
-returns c = (c.stored.ensures, text_of c.args.text.now c.character_index-at.ensures.0 (read_is _ c.ranges.v) c.put_whole.ensures)
+pub returns-clause-outcome : goal.returns-clause-outcome
+returns-clause-outcome c = (c.stored.ensures, text_of c.args.book.now.text.now c.character_index-at.ensures.0 (read_is _ c.ranges.v) c.put_whole.ensures)

@@ -17,14 +17,14 @@ suggestion-value-requires c = word_suggests c.args.row.now c.args.run c.requires
 pub answered-requires : goal.answered-requires
 answered-requires c = (from_answer (from_start c.requires.ready) (record { answer = c.next_answer.ensures; next = c.signalled-next.ensures }) (ap answer_as c.in-Mend.is) (Action.answered c.args.reading (mending_as c.in-Mend.mending))).0
 
-pub returns-in_err-run-in-Mend : goal.returns-in_err-run-in-Mend
-returns-in_err-run-in-Mend c = gives_up _ c.from_residual.result c.from_residual.ensures.1 (event_ends _ _ _ c.args.text.now (record { answer = c.next_answer.ensures; next = c.signalled-next.ensures }) (ap answer_as c.in-Mend.is) (halted c.answered.ensures c.in_err-run-in-Mend.was))
+pub returns-in_err-run-in-Mend-clause-outcome : goal.returns-in_err-run-in-Mend-clause-outcome
+returns-in_err-run-in-Mend-clause-outcome c = gives_up _ c.from_residual.result c.from_residual.ensures.1 (event_ends _ _ _ c.args.book.now.text.now (record { answer = c.next_answer.ensures; next = c.signalled-next.ensures }) (ap answer_as c.in-Mend.is) (halted c.answered.ensures.outcome c.in_err-run-in-Mend.was))
 
-pub returns-in-Default : goal.returns-in-Default
-returns-in-Default c = event_refuses _ _ _ c.args.text.now (record { answer = c.next_answer.ensures; next = c.signalled-next.ensures }) (ap answer_as c.in-Default.is) c.refused_at.ensures
+pub returns-in-Default-clause-outcome : goal.returns-in-Default-clause-outcome
+returns-in-Default-clause-outcome c = event_refuses _ _ _ c.args.book.now.text.now (record { answer = c.next_answer.ensures; next = c.signalled-next.ensures }) (ap answer_as c.in-Default.is) c.refused_at.ensures
 
-pub returns-in-Jump : goal.returns-in-Jump
-returns-in-Jump c = event_jumps _ _ _ c.args.text.now (record { answer = c.next_answer.ensures; next = c.signalled-next.ensures }) (ap answer_as c.in-Jump.is) c.refused_at-in-Jump.ensures
+pub returns-in-Jump-clause-outcome : goal.returns-in-Jump-clause-outcome
+returns-in-Jump-clause-outcome c = event_jumps _ _ _ c.args.book.now.text.now (record { answer = c.next_answer.ensures; next = c.signalled-next.ensures }) (ap answer_as c.in-Jump.is) c.refused_at-in-Jump.ensures
 
-pub returns-in_ok-run-in-Mend : goal.returns-in_ok-run-in-Mend
-returns-in_ok-run-in-Mend c = event_done _ _ _ c.args.text.now (record { answer = c.next_answer.ensures; next = c.signalled-next.ensures }) (ap answer_as c.in-Mend.is) (reached c.answered.ensures c.in_ok-run-in-Mend.was) c.suggestion-value.ensures
+pub returns-in_ok-run-in-Mend-clause-outcome : goal.returns-in_ok-run-in-Mend-clause-outcome
+returns-in_ok-run-in-Mend-clause-outcome c = event_done _ _ _ c.args.book.now.text.now (record { answer = c.next_answer.ensures; next = c.signalled-next.ensures }) (ap answer_as c.in-Mend.is) (reached c.answered.ensures.outcome c.in_ok-run-in-Mend.was) c.suggestion-value.ensures

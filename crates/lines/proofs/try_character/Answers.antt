@@ -9,28 +9,28 @@ use Rattle.laws.proofs.Lines.{put_line, put_ends, put_done, put_from, put_stores
 use Rattle.lines.proofs.try_character.Goals as goal
 
 pub loop-at-init : goal.loop-at-init
-loop-at-init c = (record { ready = c.requires.ready; same = refl }, refl, refl, refl)
+loop-at-init c = (record { ready = c.requires.ready; same = refl }, (refl, refl, refl))
 
 pub reach_line-requires : goal.reach_line-requires
-reach_line-requires c = put_line _ _ _ _ c.loop-at.text c.loop-at.invariant.0.ready
+reach_line-requires c = put_line _ _ _ _ c.loop-at.book.text.now c.loop-at.invariant.0.ready
 
-pub returns-in_err-at : goal.returns-in_err-at
-returns-in_err-at c = hands_up _ c.from_residual.result c.from_residual.ensures.1 (c.loop-at.invariant.0.same ∙ put_ends _ _ _ _ c.loop-at.text c.loop-at.invariant.0.ready (halted c.reach_line.ensures c.in_err-at.was))
+pub returns-in_err-at-clause-outcome : goal.returns-in_err-at-clause-outcome
+returns-in_err-at-clause-outcome c = hands_up _ c.from_residual.result c.from_residual.ensures.1 (c.loop-at.invariant.0.same ∙ put_ends _ _ _ _ c.loop-at.book.text.now c.loop-at.invariant.0.ready (halted c.reach_line.ensures.outcome c.in_err-at.was))
 
 pub store_character-requires : goal.store_character-requires
-store_character-requires c = let asked = here_small (put_done _ _ _ _ c.loop-at.text c.loop-at.invariant.0.ready (reached c.reach_line.ensures c.in_ok-at.was)).valid in record { small = asked.0; le_character = asked.1 }
+store_character-requires c = let asked = here_small (put_done _ _ _ _ c.loop-at.book.text.now c.loop-at.invariant.0.ready (reached c.reach_line.ensures.outcome c.in_ok-at.was)).valid in record { small = asked.0; le_character = asked.1 }
 
-pub returns-then-is_printable : goal.returns-then-is_printable
-returns-then-is_printable c = put_stores _ _ _ _ c.loop-at.text c.loop-at.invariant.0.ready (reached c.reach_line.ensures c.in_ok-at.was) (sym c.is_printable.ensures ∙ c.if-is_printable.true) c.store_character.ensures.0 c.store_character.ensures.1 ∙ sym c.loop-at.invariant.0.same
+pub returns-then-is_printable-clause-outcome : goal.returns-then-is_printable-clause-outcome
+returns-then-is_printable-clause-outcome c = put_stores _ _ _ _ c.loop-at.book.text.now c.loop-at.invariant.0.ready (reached c.reach_line.ensures.outcome c.in_ok-at.was) (sym c.is_printable.ensures ∙ c.if-is_printable.true) c.store_character.ensures.stored.0 c.store_character.ensures.stored.1 ∙ sym c.loop-at.invariant.0.same
 
 pub character_event-requires : goal.character_event-requires
-character_event-requires c = record { ready = ready_as _ _ _ (put_from _ _ _ _ c.loop-at.text c.loop-at.invariant.0.ready (reached c.reach_line.ensures c.in_ok-at.was)).ready Action.pass_blanks (omega arith); row_good = c.requires.row_good }
+character_event-requires c = record { ready = ready_as _ _ _ (put_from _ _ _ _ c.loop-at.book.text.now c.loop-at.invariant.0.ready (reached c.reach_line.ensures.outcome c.in_ok-at.was)).ready Action.pass_blanks (omega arith); row_good = c.requires.row_good }
 
-pub returns-in_err-taken : goal.returns-in_err-taken
-returns-in_err-taken c = hands_up _ c.from_residual-in_err-taken.result c.from_residual-in_err-taken.ensures.1 (c.loop-at.invariant.0.same ∙ put_event_ends _ _ _ _ c.loop-at.text c.loop-at.invariant.0.ready (reached c.reach_line.ensures c.in_ok-at.was) (sym c.is_printable.ensures ∙ c.if-is_printable.false) (gives_none c.character_event.ensures c.in_err-taken.was))
+pub returns-in_err-taken-clause-outcome : goal.returns-in_err-taken-clause-outcome
+returns-in_err-taken-clause-outcome c = hands_up _ c.from_residual-in_err-taken.result c.from_residual-in_err-taken.ensures.1 (c.loop-at.invariant.0.same ∙ put_event_ends _ _ _ _ c.loop-at.book.text.now c.loop-at.invariant.0.ready (reached c.reach_line.ensures.outcome c.in_ok-at.was) (sym c.is_printable.ensures ∙ c.if-is_printable.false) (gives_none c.character_event.ensures.outcome c.in_err-taken.was))
 
 pub loop-at-smaller : goal.loop-at-smaller
-loop-at-smaller c = trying_less _ _ _ _ c.loop-at.text c.loop-at.invariant.0.ready (reached c.reach_line.ensures c.in_ok-at.was) (sym c.is_printable.ensures ∙ c.if-is_printable.false) (gives c.character_event.ensures c.in_ok-taken.was)
+loop-at-smaller c = trying_less _ _ _ _ c.loop-at.book.text.now c.loop-at.invariant.0.ready (reached c.reach_line.ensures.outcome c.in_ok-at.was) (sym c.is_printable.ensures ∙ c.if-is_printable.false) (gives c.character_event.ensures.outcome c.in_ok-taken.was)
 
 pub loop-at-preserved : goal.loop-at-preserved
-loop-at-preserved c = (trying_again _ _ _ _ c.loop-at.text c.loop-at.invariant.0.ready (reached c.reach_line.ensures c.in_ok-at.was) (sym c.is_printable.ensures ∙ c.if-is_printable.false) (gives c.character_event.ensures c.in_ok-taken.was) c.loop-at.invariant.0, c.character_event.auto.text ∙ c.reach_line.auto.text ∙ c.loop-at.invariant.1, c.character_event.auto.lines ∙ c.reach_line.auto.lines ∙ c.loop-at.invariant.2, c.character_event.auto.pages ∙ c.reach_line.auto.pages ∙ c.loop-at.invariant.3)
+loop-at-preserved c = (trying_again _ _ _ _ c.loop-at.book.text.now c.loop-at.invariant.0.ready (reached c.reach_line.ensures.outcome c.in_ok-at.was) (sym c.is_printable.ensures ∙ c.if-is_printable.false) (gives c.character_event.ensures.outcome c.in_ok-taken.was) c.loop-at.invariant.0, (c.character_event.ensures.memory.0 ∙ c.reach_line.ensures.memory.0 ∙ c.loop-at.invariant.1.0, c.character_event.ensures.memory.1 ∙ c.reach_line.ensures.memory.1 ∙ c.loop-at.invariant.1.1, c.character_event.ensures.memory.2 ∙ c.reach_line.ensures.memory.2 ∙ c.loop-at.invariant.1.2))

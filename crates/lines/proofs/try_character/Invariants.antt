@@ -1,12 +1,10 @@
+use Rattle.places.specs.Lent.{state_over, SameMemory}
 use Rattle.rules.specs.Steps.{Action, measure}
-use Rattle.rules.specs.Book.{state}
-use lib.ListN.{length}
-use mathlib.Core.Path.{◌≡◌}
 use Rattle.laws.proofs.Lines.{Trying}
 use Rattle.lines.proofs.try_character.Given as goal
 
 abbrev pub invariant-loop-at : goal.invariant-loop-at
-invariant-loop-at l = Trying l.row l.string l.initial.c (state l.initial.here l.fn.lines l.fn.pages) l.fn.text l.c (state l.here l.lines l.pages) l.text × (length l.text ≡ length l.fn.text) × (length l.lines ≡ length l.fn.lines) × (length l.pages ≡ length l.fn.pages)
+invariant-loop-at l = Trying l.row l.string l.initial.c (state_over l.initial.here l.fn.book) l.fn.book.text.now l.c (state_over l.here l.book) l.book.text.now × SameMemory l.fn.book l.book
 
 abbrev pub decreases-loop-at : goal.decreases-loop-at
-decreases-loop-at l = measure l.row (Action.put_character l.string l.c) (state l.here l.lines l.pages)
+decreases-loop-at l = measure l.row (Action.put_character l.string l.c) (state_over l.here l.book)

@@ -10,7 +10,7 @@ use Rattle.plain.proofs.Plain.{chooses_only, refused_as, done_as, choose_is, cho
 use Rattle.plain.proofs.choose.Goals as goal
 
 pub returns-in-Err : goal.returns-in-Err
-returns-in-Err c = refused_as c.args.file c.args.end c.args.text.now c.args.lines.now c.args.pages.now c.start-start.ensures (begin (change (chooses_only c.args.split) >> pure nothing)) _ (checked_no _ c.args.text.now (c.test_book.ensures ∙ ap (λ (r : Run). before_work (length c.args.text.now) (state r c.args.lines.now c.args.pages.now)) c.start-start.ensures) c.in-Err.is) c.refuse.ensures ∙ sym (choose_is c.args.file c.args.end c.args.text.now c.args.lines.now c.args.pages.now c.args.split)
+returns-in-Err c = refused_as c.args.file c.args.end c.args.book.now.text.now c.args.book.now.lines.now c.args.book.now.pages.now c.start-start.ensures (begin (change (chooses_only c.args.split) >> pure nothing)) _ (checked_no _ c.args.book.now.text.now (c.test_book.ensures ∙ ap (λ (r : Run). before_work (length c.args.book.now.text.now) (state r c.args.book.now.lines.now c.args.book.now.pages.now)) c.start-start.ensures) c.in-Err.is) c.refuse.ensures ∙ sym (choose_is c.args.file c.args.end c.args.book.now.text.now c.args.book.now.lines.now c.args.book.now.pages.now c.args.split)
 
 pub returns : goal.returns
-returns c = done_as c.args.file c.args.end c.args.text.now c.args.lines.now c.args.pages.now (begin (change (chooses_only c.args.split) >> pure nothing)) _ c.args.end _ _ (checked_on _ c.args.text.now (c.test_book.ensures ∙ ap (λ (r : Run). before_work (length c.args.text.now) (state r c.args.lines.now c.args.pages.now)) c.start-start.ensures) c.in_default.is ∙ choose_done c.args.file c.args.end c.args.text.now c.args.lines.now c.args.pages.now c.args.split) c.done.ensures ∙ sym (choose_is c.args.file c.args.end c.args.text.now c.args.lines.now c.args.pages.now c.args.split)
+returns c = done_as c.args.file c.args.end c.args.book.now.text.now c.args.book.now.lines.now c.args.book.now.pages.now (begin (change (chooses_only c.args.split) >> pure nothing)) _ c.args.end _ _ (checked_on _ c.args.book.now.text.now (c.test_book.ensures ∙ ap (λ (r : Run). before_work (length c.args.book.now.text.now) (state r c.args.book.now.lines.now c.args.book.now.pages.now)) c.start-start.ensures) c.in_default.is ∙ choose_done c.args.file c.args.end c.args.book.now.text.now c.args.book.now.lines.now c.args.book.now.pages.now c.args.split) c.done.ensures ∙ sym (choose_is c.args.file c.args.end c.args.book.now.text.now c.args.book.now.lines.now c.args.book.now.pages.now c.args.split)

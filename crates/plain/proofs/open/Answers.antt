@@ -10,7 +10,7 @@ use Rattle.rules.specs.declared.Refusal.TheVariants.{BadBook}
 use Rattle.plain.proofs.open.Goals as goal
 
 pub returns-then-not-book_fits : goal.returns-then-not-book_fits
-returns-then-not-book_fits c = refused_as c.args.file c.args.end c.args.text.now c.args.lines.now c.args.pages.now c.start-start.ensures opening BadBook (open_book c.args.file c.args.end c.args.text.now c.args.lines.now c.args.pages.now (sym (ap (λ (r : Run). book_fits (length c.args.text.now) (state r c.args.lines.now c.args.pages.now)) c.start-start.ensures) ∙ sym c.book_fits.ensures ∙ c.if-not-book_fits.true)) c.refuse.ensures ∙ sym (open_is c.args.file c.args.end c.args.text.now c.args.lines.now c.args.pages.now)
+returns-then-not-book_fits c = refused_as c.args.file c.args.end c.args.book.now.text.now c.args.book.now.lines.now c.args.book.now.pages.now c.start-start.ensures opening BadBook (open_book c.args.file c.args.end c.args.book.now.text.now c.args.book.now.lines.now c.args.book.now.pages.now (sym (ap (λ (r : Run). book_fits (length c.args.book.now.text.now) (state r c.args.book.now.lines.now c.args.book.now.pages.now)) c.start-start.ensures) ∙ sym c.book_fits.ensures ∙ c.if-not-book_fits.true)) c.refuse.ensures ∙ sym (open_is c.args.file c.args.end c.args.book.now.text.now c.args.book.now.lines.now c.args.book.now.pages.now)
 
 pub returns : goal.returns
-returns c = done_as c.args.file c.args.end c.args.text.now c.args.lines.now c.args.pages.now opening _ c.args.end _ _ (open_done c.args.file c.args.end c.args.text.now c.args.lines.now c.args.pages.now (sym (ap (λ (r : Run). book_fits (length c.args.text.now) (state r c.args.lines.now c.args.pages.now)) c.start-start.ensures) ∙ sym c.book_fits.ensures ∙ c.if-not-book_fits.false)) (c.done.ensures ∙ ap (λ (f : File). done_reply f c.args.end) c.opened.ensures) ∙ sym (open_is c.args.file c.args.end c.args.text.now c.args.lines.now c.args.pages.now)
+returns c = done_as c.args.file c.args.end c.args.book.now.text.now c.args.book.now.lines.now c.args.book.now.pages.now opening _ c.args.end _ _ (open_done c.args.file c.args.end c.args.book.now.text.now c.args.book.now.lines.now c.args.book.now.pages.now (sym (ap (λ (r : Run). book_fits (length c.args.book.now.text.now) (state r c.args.book.now.lines.now c.args.book.now.pages.now)) c.start-start.ensures) ∙ sym c.book_fits.ensures ∙ c.if-not-book_fits.false)) (c.done.ensures ∙ ap (λ (f : File). done_reply f c.args.end) c.opened.ensures) ∙ sym (open_is c.args.file c.args.end c.args.book.now.text.now c.args.book.now.lines.now c.args.book.now.pages.now)

@@ -11,7 +11,7 @@ use Rattle.plain.proofs.Plain.{refused_as, reset_is, reset_outcome, worked_as}
 use Rattle.plain.proofs.reset.Goals as goal
 
 pub returns-in-Err : goal.returns-in-Err
-returns-in-Err c = refused_as c.args.file c.args.end c.args.text.now c.args.lines.now c.args.pages.now c.start-start.ensures (begin (reset >> pure nothing)) _ (checked_no _ c.args.text.now (c.test_book.ensures ∙ ap (λ (r : Run). before_work (length c.args.text.now) (state r c.args.lines.now c.args.pages.now)) c.start-start.ensures) c.in-Err.is) c.refuse.ensures ∙ sym (reset_is c.args.file c.args.end c.args.text.now c.args.lines.now c.args.pages.now)
+returns-in-Err c = refused_as c.args.file c.args.end c.args.book.now.text.now c.args.book.now.lines.now c.args.book.now.pages.now c.start-start.ensures (begin (reset >> pure nothing)) _ (checked_no _ c.args.book.now.text.now (c.test_book.ensures ∙ ap (λ (r : Run). before_work (length c.args.book.now.text.now) (state r c.args.book.now.lines.now c.args.book.now.pages.now)) c.start-start.ensures) c.in-Err.is) c.refuse.ensures ∙ sym (reset_is c.args.file c.args.end c.args.book.now.text.now c.args.book.now.lines.now c.args.book.now.pages.now)
 
 pub returns : goal.returns
-returns c = worked_as c.args.file c.args.end c.args.text.now c.args.lines.now c.args.pages.now reset (c.test_book.ensures ∙ ap (λ (r : Run). before_work (length c.args.text.now) (state r c.args.lines.now c.args.pages.now)) c.start-start.ensures) c.in_default.is c.reset.result (ap (λ (o : Outcome). outcome o c.args.text.now c.args.lines.now c.args.pages.now) (c.reset.ensures ∙ ap reset_by c.start-start.ensures) ∙ reset_outcome c.args.file c.args.end c.args.text.now c.args.lines.now c.args.pages.now) c.ended.ensures ∙ sym (reset_is c.args.file c.args.end c.args.text.now c.args.lines.now c.args.pages.now)
+returns c = worked_as c.args.file c.args.end c.args.book.now.text.now c.args.book.now.lines.now c.args.book.now.pages.now reset (c.test_book.ensures ∙ ap (λ (r : Run). before_work (length c.args.book.now.text.now) (state r c.args.book.now.lines.now c.args.book.now.pages.now)) c.start-start.ensures) c.in_default.is c.reset.result (ap (λ (o : Outcome). outcome o c.args.book.now.text.now c.args.book.now.lines.now c.args.book.now.pages.now) (c.reset.ensures ∙ ap reset_by c.start-start.ensures) ∙ reset_outcome c.args.file c.args.end c.args.book.now.text.now c.args.book.now.lines.now c.args.book.now.pages.now) c.ended.ensures ∙ sym (reset_is c.args.file c.args.end c.args.book.now.text.now c.args.book.now.lines.now c.args.book.now.pages.now)

@@ -1,15 +1,13 @@
+use Rattle.places.specs.Lent.{state_over, SameMemory}
 use mathlib.Core.Bool.{true}
 use mathlib.Core.Path.{◌≡◌}
-use Prim.Native.Nat.{◌≤◌}
-use lib.ListN.{length, drop}
-use Rattle.rules.specs.Book.{state}
 use Rattle.rules.specs.Steps.{put_character, measure}
 use Rattle.rules.specs.Ready.{Ready}
 use Rattle.rules.specs.Calls.{put_characters}
 use Rattle.strings.proofs.put_string.Given as goal
 
-abbrev pub invariant-loop-i : goal.invariant-loop-i
-invariant-loop-i l = ((put_characters l.row true l.bytes (state l.initial.here l.fn.lines l.fn.pages) l.fn.text ≡ put_characters l.row true (drop l.i l.bytes) (state l.here l.lines l.pages) l.text) × Ready l.row (put_character true 0) (state l.here l.lines l.pages) × (l.i ≤ length l.bytes)) × (length l.text ≡ length l.fn.text) × (length l.lines ≡ length l.fn.lines) × (length l.pages ≡ length l.fn.pages)
+abbrev pub invariant-loop-first : goal.invariant-loop-first
+invariant-loop-first l = ((put_characters l.row true l.bytes (state_over l.initial.here l.fn.book) l.fn.book.text.now ≡ put_characters l.row true l.rest (state_over l.here l.book) l.book.text.now) × Ready l.row (put_character true 0) (state_over l.here l.book)) × SameMemory l.fn.book l.book
 
-abbrev pub decreases-loop-i : goal.decreases-loop-i
-decreases-loop-i l = measure l.row (put_character true 0) (state l.here l.lines l.pages)
+abbrev pub decreases-loop-first : goal.decreases-loop-first
+decreases-loop-first l = measure l.row (put_character true 0) (state_over l.here l.book)

@@ -16,4 +16,4 @@ pub character_index-at-requires : goal.character_index-at-requires
 character_index-at-requires c = let asked = here_small c.requires in record { small = asked.0; le_character = asked.1 }
 
 pub returns : goal.returns
-returns c = room_elsewhere _ _ _ c.requires (sym c.line_good.ensures ∙ c.if-not-line_good.false) c.line_length-size.ensures.0 c.line_length-size.ensures.1 c.saturating_sub-rest.ensures (c.saturating_sub-there.ensures ∙ ap (λ (i : ℕ). length c.args.text.now - i) c.character_index-at.ensures.0) (omega (arith, c.min-room.ensures)) (omega (arith, c.min-room.ensures)) (sym c.on_end_line.ensures ∙ c.if-on_end_line.false)
+returns c = room_elsewhere _ _ _ c.requires (sym c.line_good.ensures ∙ c.if-not-line_good.false) c.line_length-size.ensures.0 c.line_length-size.ensures.1 c.saturating_sub-rest.ensures (c.saturating_sub-there.ensures ∙ ap (λ (i : ℕ). length c.args.book.now.text.now - i) c.character_index-at.ensures.0) (omega (arith, c.min-room.ensures)) (omega (arith, c.min-room.ensures)) (sym c.on_end_line.ensures ∙ c.if-on_end_line.false)

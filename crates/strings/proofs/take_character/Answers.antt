@@ -1,3 +1,4 @@
+use Rattle.places.specs.Lent.{state_over}
 use Rattle.rules.specs.Book.{state, on_run}
 use mathlib.Core.Path.{sym, ap, subst, ◌∙◌}
 use native.Mathlib.Omega.{arith}
@@ -18,11 +19,11 @@ character_here-b-requires c = let asked = here_small c.requires.ready.valid in r
 pub overflow_add-position : goal.overflow_add-position
 overflow_add-position c = omega (arith, near_at c.requires.ready.valid)
 
-pub returns-then-is_printable : goal.returns-then-is_printable
-returns-then-is_printable c = ap (λ (r : Run). done c.character_here-b.result (state r c.args.lines.now c.args.pages.now) c.args.text.now) c.moved-on.ensures ∙ sym (take-printable c.args.row.now (state c.args.run c.args.lines.now c.args.pages.now) c.args.text.now c.character_here-b.ensures (sym c.is_printable.ensures ∙ c.if-is_printable.true))
+pub returns-then-is_printable-clause-outcome : goal.returns-then-is_printable-clause-outcome
+returns-then-is_printable-clause-outcome c = ap (λ (r : Run). done c.character_here-b.result (state r c.args.book.now.lines.now c.args.book.now.pages.now) c.args.book.now.text.now) c.moved-on.ensures ∙ sym (take-printable c.args.row.now (state_over c.args.run c.args.book.now) c.args.book.now.text.now c.character_here-b.ensures (sym c.is_printable.ensures ∙ c.if-is_printable.true))
 
 pub character_event-requires : goal.character_event-requires
-character_event-requires c = record { ready = subst (λ (r : Run). Ready c.args.row.now Action.pass_blanks (on_run (state c.args.run c.args.lines.now c.args.pages.now) r)) (sym c.moved-on.ensures) (passed_ready _ Action.pass_blanks (state c.args.run c.args.lines.now c.args.pages.now) c.requires.ready (good_facts true (state c.args.run c.args.lines.now c.args.pages.now) c.requires.line_is_good)); row_good = c.requires.row_good }
+character_event-requires c = record { ready = subst (λ (r : Run). Ready c.args.row.now Action.pass_blanks (on_run (state_over c.args.run c.args.book.now) r)) (sym c.moved-on.ensures) (passed_ready _ Action.pass_blanks (state_over c.args.run c.args.book.now) c.requires.ready (good_facts true (state_over c.args.run c.args.book.now) c.requires.line_is_good)); row_good = c.requires.row_good }
 
-pub returns : goal.returns
-returns c = c.character_event.ensures ∙ ap (λ (r : Run). character_event c.args.row.now (execute c.args.row.now) true 32 (on_run (state c.args.run c.args.lines.now c.args.pages.now) r) c.args.text.now) c.moved-on.ensures ∙ sym (take_event c.args.row.now (state c.args.run c.args.lines.now c.args.pages.now) c.args.text.now c.character_here-b.ensures (sym c.is_printable.ensures ∙ c.if-is_printable.false))
+pub returns-clause-outcome : goal.returns-clause-outcome
+returns-clause-outcome c = c.character_event.ensures.outcome ∙ ap (λ (r : Run). character_event c.args.row.now (execute c.args.row.now) true 32 (on_run (state_over c.args.run c.args.book.now) r) c.args.book.now.text.now) c.moved-on.ensures ∙ sym (take_event c.args.row.now (state_over c.args.run c.args.book.now) c.args.book.now.text.now c.character_here-b.ensures (sym c.is_printable.ensures ∙ c.if-is_printable.false))

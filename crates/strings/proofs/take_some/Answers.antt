@@ -1,8 +1,11 @@
-use lib.Seq.{sets}
-use lib.ListN.{take, drop}
+use lib.ListN.{length, take, drop}
 use mathlib.Core.Path.{ap, ◌∙◌}
 use Prim.Native.Nat.{ℕ}
+use native.Mathlib.Omega.{arith}
 use Rattle.strings.proofs.take_some.Goals as goal
 
 pub returns : goal.returns
-returns c = (c.moved.ensures, c.store_run.ensures ∙ ap (λ (j : ℕ). sets c.args.output.now c.args.i (take c.args.n (drop j c.args.text.now))) c.character_index-at.ensures.0)
+returns c =
+    let text = c.args.book.now.text.now in
+    let at = c.character_index-at.result in
+    (c.moved.ensures, c.copy_from_slice.ensures.after ∙ ap (λ (k : ℕ). take k (drop at text)) (omega arith) ∙ ap (λ (j : ℕ). take (length c.args.room.now) (drop j text)) c.character_index-at.ensures.0)

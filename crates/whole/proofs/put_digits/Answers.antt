@@ -1,8 +1,9 @@
-use Rattle.whole.proofs.Digits.{stored_more, stored_all}
+use native.Mathlib.Omega.{arith}
+use Rattle.whole.proofs.Digits.{stored_none, stored_more}
 use Rattle.whole.proofs.put_digits.Goals as goal
 
-pub returns-then-m-eq0 : goal.returns-then-m-eq0
-returns-then-m-eq0 c = stored_all _ _ _ _ _ _ c.loop-i.invariant c.store_byte.ensures c.if-m-eq0.true
+pub loop-i-init : goal.loop-i-init
+loop-i-init c = stored_none c.args.places.now c.args.n c.requires
 
 pub loop-i-preserved : goal.loop-i-preserved
-loop-i-preserved c = stored_more _ _ _ _ _ _ c.loop-i.invariant c.store_byte.ensures c.if-m-eq0.false
+loop-i-preserved c = stored_more _ _ _ _ _ (omega arith) (omega arith) c.loop-i.invariant
