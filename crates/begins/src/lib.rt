@@ -16,7 +16,9 @@ pub fn asked(run: Run, book: &BookMut, row: &[u32]) -> Result<(), EndedCall>
     entry::test_call(run, &book.shared(), row).map_err(|refusal| running::refused(run, refusal))
 }
 
-// A get or a put: 4 without its right, 5 against a mood that cannot turn; then the mood is turned.
+// A get or a put: 4 without its right, 5 against a mood that cannot turn; then the mood is turned. It is part of each caller, so that no
+// record is copied.
+#[inline(always)]
 pub fn prepared(run: Run, reading: bool, book: &BookMut, row: &[u32]) -> Outcome
     ensures { result ≡ prepared_by row.now reading (length book.now.text.now) (state_over run book.now) }
 {
@@ -24,7 +26,8 @@ pub fn prepared(run: Run, reading: bool, book: &BookMut, row: &[u32]) -> Outcome
     entry::turned(run, reading)
 }
 
-// "Space, newline, newpage and set char number need a mood": 5 without one.
+// "Space, newline, newpage and set char number need a mood": 5 without one. It is part of each caller too.
+#[inline(always)]
 pub fn in_mood(run: Run, book: &BookMut, row: &[u32]) -> Outcome
     ensures { result ≡ in_mood_by row.now (length book.now.text.now) (state_over run book.now) }
 {

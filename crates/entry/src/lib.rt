@@ -67,43 +67,28 @@ pub fn all_up_to(most: usize, lengths: &[u8]) -> bool
 }
 
 // "At least one of get and put is needed."
+#[tactic(auto, unfolding(rules::specs::Book::some_right))]
 pub fn has_right(rights: Rights) -> bool
     ensures { result ≡ some_right rights }
 {
-    if rights.get { true } else { rights.put }
+    rights.get || rights.put
 }
 
 // "both moods on, a mood without its right, or no right to get or put".
 pub fn flags_fit(file: File) -> bool
     ensures { result ≡ flags_fit file }
 {
-    if file.reading {
-        if file.writing {
-            return false;
-        }
-        return file.rights.get;
-    }
-    if file.writing {
-        return file.rights.put;
-    }
-    if file.rights.get {
-        true
-    } else {
-        file.rights.put
-    }
+    has_right(file.rights) && moods_fit(file)
 }
 
 // "both moods on, a mood without its right".
+#[tactic(auto, unfolding(rules::specs::Book::moods_fit))]
 pub fn moods_fit(file: File) -> bool
     ensures { result ≡ moods_fit file }
 {
-    if file.reading {
-        if file.writing {
-            return false;
-        }
-        return file.rights.get;
-    }
-    if file.writing { file.rights.put } else { true }
+    !(file.reading && file.writing)
+        && (!file.reading || file.rights.get)
+        && (!file.writing || file.rights.put)
 }
 
 // What establish looks at.
@@ -122,13 +107,11 @@ pub fn shape_fits(run: Run, book: &BookRef) -> bool
 }
 
 // Whether every lent length is at most what the shape allows.
+#[tactic(auto, unfolding(rules::specs::Book::lengths_fit))]
 pub fn lengths_fit(shape: Shape, book: &BookRef) -> bool
     ensures { result ≡ lengths_fit shape (lengths book.now.lines.now book.now.pages.now) }
 {
-    if !all_up_to(shape.characters, book.lines) {
-        return false;
-    }
-    all_up_to(shape.lines, book.pages)
+    all_up_to(shape.characters, book.lines) && all_up_to(shape.lines, book.pages)
 }
 
 // What open looks at.
@@ -146,7 +129,7 @@ pub fn book_fits(run: Run, book: &BookRef) -> bool
     book.in_bounds(shape, end)
 }
 
-// What every other call looks at: what open does, and the record. It calls no `book_fits`, so that all of it is one function.
+// What every other call looks at: what open does, and the record. A call itself is tested by `test_book`, in two halves.
 pub fn all_fits(run: Run, book: &BookRef) -> bool
     ensures { result ≡ all_fits (length book.now.text.now) (state run book.now.lines.now book.now.pages.now) }
 {
@@ -176,13 +159,9 @@ pub fn all_fits(run: Run, book: &BookRef) -> bool
 pub fn is_sound(shape: Shape, book: &BookRef) -> bool
     ensures { result ≡ sound shape (length book.now.text.now) book.now.lines.now book.now.pages.now }
 {
-    if !is_legal(shape) {
-        return false;
-    }
-    if !sizes_fit(shape, book.text.len(), book.lines.len(), book.pages.len()) {
-        return false;
-    }
-    lengths_fit(shape, book)
+    is_legal(shape)
+        && sizes_fit(shape, book.text.len(), book.lines.len(), book.pages.len())
+        && lengths_fit(shape, book)
 }
 
 // How many places a line has for a position, 0 where there is no such line: in sound memory no index has to be looked at.

@@ -1,5 +1,5 @@
 // The gets: a character, a string, an integer. Each answers every record, book, row and output; what it hands back and leaves is what
-// `call` says.
+// `call` says. Each call has its own `match`, as in crate puts.
 #![tactic(auto)]
 
 ghost use Rattle.std.specs.Prelude.{◌≡◌, [], T};

@@ -1,5 +1,5 @@
-// Integers put and got: the room that one needs, its text, and its digits. Each loop goes on until an event ends it or its character is
-// met: it counts nothing, so no `for`.
+// Integers put and got: the room that one needs, its text, and its digits. Each loop goes on until its character or
+// its room is found, or an event ends it: it counts nothing, so no `for`.
 #![tactic(auto)]
 
 ghost use Rattle.std.specs.Prelude.{◌≡◌, true, ◌||◌, eqb, ◌+◌, ◌≤◌, ◌<◌, ◌^◌, T, nat_abs, pos};
@@ -82,7 +82,7 @@ pub fn put_integer(run: Run, v: i32, book: &mut BookMut, row: &[u32]) -> Outcome
 pub fn is_digit(b: u8) -> bool
     ensures { result ≡ digit b }
 {
-    b'0' <= b && b <= b'9'
+    b.is_ascii_digit()
 }
 
 // The position one character on.

@@ -1,5 +1,5 @@
 // The layout calls: space, newline, newpage, set and set char number. Each answers every record, book, row and place; what it hands
-// back and leaves is what `call` says.
+// back and leaves is what `call` says. Each call has its own `match`, as in crate puts.
 #![tactic(auto)]
 
 ghost use Rattle.std.specs.Prelude.{◌≡◌, []};

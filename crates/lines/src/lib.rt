@@ -1,5 +1,5 @@
 // Above the event cycle: good line, put of a character, space and set char number. Each loop goes on until no event is met or one ends
-// it: it counts nothing, so no `for`.
+// it, and that of set char number until its place is reached: an event can move the position, so neither is a `for`.
 #![tactic(auto)]
 
 ghost use Rattle.std.specs.Prelude.{◌≡◌, T, false};

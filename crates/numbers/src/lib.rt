@@ -58,7 +58,8 @@ pub fn result_of(reply: Reply, number: u8, stop: u8, event: u8, given: u8, value
     }
 }
 
-// A reply in numbers.
+// A reply in numbers. It is part of each caller, so that no reply is copied.
+#[inline(always)]
 pub fn in_numbers(reply: Reply) -> CallResult
     ensures { InNumbers reply reply.file result }
 {

@@ -1,5 +1,7 @@
 // The puts: a character, a string, an integer. Each answers every record, book, row and text; what it hands back and leaves is what
 // `call` says.
+// Each call has its own `match`: by `and_then` no proof knows what the closure leaves of the book that it captures, and a function with `?`
+// for each would be longer.
 #![tactic(auto)]
 
 ghost use Rattle.std.specs.Prelude.{◌≡◌, []};

@@ -19,7 +19,8 @@ use rules::{File, Position, Reply};
 use views::ViewPlace;
 use whole::Wrote;
 
-// What a call leaves: the record in its place, and the result in numbers.
+// What a call leaves: the record in its place, and the result in numbers. It is part of each caller, so that no reply is copied.
+#[inline(always)]
 pub fn leave(file: &mut File, reply: Reply) -> CallResult
     ensures { InNumbers reply file.new result }
 {

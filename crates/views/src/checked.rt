@@ -22,10 +22,8 @@ impl<'a> CheckedBook<'a> {
     pub fn check(run: Run, book: BookRef<'a>) -> Result<CheckedBook<'a>, Refusal>
         ensures { Checks run book.entry.text.now book.entry.lines.now book.entry.pages.now result }
     {
-        match entry::test_book(run, &book) {
-            Ok(()) => Ok(CheckedBook { run, book }),
-            Err(refusal) => Err(refusal),
-        }
+        entry::test_book(run, &book)?;
+        Ok(CheckedBook { run, book })
     }
 
     // Where a line's shown characters lie in the text, if it is shown.

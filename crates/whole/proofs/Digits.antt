@@ -1,8 +1,8 @@
 -- The digits of a number, counted, and stored from right to left. Assumes nothing.
-use Prim.Native.Nat.{ℕ, zero, suc, ◌+◌, ◌*◌, ◌/◌, ◌%◌, ◌≤◌, ◌<◌}
+use Prim.Native.Nat.{ℕ, zero, suc, ◌+◌, ◌/◌, ◌%◌, ◌≤◌, ◌<◌}
 use native.Mathlib.Omega.{arith}
 use native.Mathlib.Decide.{dec_lt}
-use mathlib.Core.Path.{◌≡◌, refl, sym, ap, subst, ◌∙◌}
+use mathlib.Core.Path.{◌≡◌, refl, sym, ap, ◌∙◌}
 use mathlib.Core.Logic.{◌⊎◌, inl, inr, ⊎_elim}
 use mathlib.Core.Bool.{Bool}
 use mathlib.Core.List.{List, [], ◌∷◌, ◌++◌, append_assoc, append-nil}
@@ -12,15 +12,10 @@ use borrow.Author.Tests.{lt-ltb, le-ltb}
 use Rattle.rules.specs.Book.{choose}
 use Rattle.rules.specs.Whole.{digits_up_to, digits}
 
--- a number of at most k + 1 digits is below this
-abbrev most : ℕ → ℕ
-most zero = 10
-most (suc k) = 10 * most k
-
 lt_or_ge : (m n : ℕ) → (m < n) ⊎ (n ≤ m)
 lt_or_ge m n = elim (dec_lt m n) [ yes h ↦ inl h | no h ↦ inr (omega arith) ]
 
-one_digit : (k m : ℕ) → m < 10 → digits_up_to (suc k) m ≡ (48 + m % 10) ∷ []
+pub one_digit : (k m : ℕ) → m < 10 → digits_up_to (suc k) m ≡ (48 + m % 10) ∷ []
 unfolding digits_up_to
 one_digit k m h =
     let e : m ≡ m % 10 = omega arith in
@@ -30,7 +25,7 @@ more_digits_lem : (k m : ℕ) → 10 ≤ m → digits_up_to (suc k) m ≡ digits
 unfolding digits_up_to
 more_digits_lem k m h = ap (λ (z : Bool). choose z ((48 + m) ∷ []) (digits_up_to k (m / 10) ++ ((48 + m % 10) ∷ []))) (le-ltb m 10 h)
 
-more_length : (k m : ℕ) → 10 ≤ m → length (digits_up_to (suc k) m) ≡ length (digits_up_to k (m / 10)) + 1
+pub more_length : (k m : ℕ) → 10 ≤ m → length (digits_up_to (suc k) m) ≡ length (digits_up_to k (m / 10)) + 1
 more_length k m h = ap length (more_digits_lem k m h) ∙ length-append (digits_up_to k (m / 10)) ((48 + m % 10) ∷ [])
 
 length_up_to : (k m : ℕ) → length (digits_up_to k m) ≤ k
@@ -68,30 +63,3 @@ pub stored_more : (l t : List ℕ) (i j m : ℕ) → i ≡ suc j → j < length 
 unfolding last
 stored_more l t i j m is-i h e =
     e ∙ ap (λ (k : ℕ). last k m ++ drop k l) is-i ∙ append_assoc (last j (m / 10)) ((48 + m % 10) ∷ []) (drop (suc j) l) ∙ ap (λ (x : List ℕ). last j (m / 10) ++ x) (drop_set l j (48 + m % 10) h)
-
--- ---- the loop that counts
-
-pub record Counted (n count m : ℕ) : Type 0 where
-  pub fuel : ℕ
-  pub text : length (digits n) + 1 ≡ count + length (digits_up_to (suc fuel) m)
-  pub small : m < most fuel
-  pub sum : count + fuel ≡ 10
-
-pub count_first : (n : ℕ) → n < 4294967296 → Counted n 1 n
-count_first n k = record { fuel = 9; text = omega arith; small = omega arith; sum = refl }
-
-module _ (n count m : ℕ) (w : Counted n count m) where
-  count_more : 10 ≤ m → (k : ℕ) → w.fuel ≡ k → Counted n (count + 1) (m / 10)
-  count_more h zero z = absurd (omega (arith, subst (λ (f : ℕ). m < most f) z w.small))
-  count_more h (suc k) z = record {
-    fuel = k;
-    text = omega (arith, subst (λ (f : ℕ). length (digits n) + 1 ≡ count + length (digits_up_to (suc f) m)) z w.text, more_length (suc k) m h);
-    small = omega (arith, subst (λ (f : ℕ). m < most f) z w.small);
-    sum = omega (arith, w.sum, z);
-  }
-
-  pub count_next : 10 ≤ m → Counted n (count + 1) (m / 10)
-  count_next h = count_more h w.fuel refl
-
-  pub count_all : m < 10 → count ≡ length (digits n)
-  count_all h = omega (arith, w.text, ap length (one_digit w.fuel m h))

@@ -25,17 +25,15 @@ pub fn magnitude(v: i32) -> u32
     v.unsigned_abs()
 }
 
-// How many digits a number has. The library has no logarithm to ten, and a chain of quotients would be no plainer than this loop.
+// How many digits a number has.
 pub fn digit_count(n: u32) -> usize
     ensures { result ≡ length (digits n) }
 {
-    let mut count = 1;
-    let mut m = n;
-    while 10 <= m {
-        m /= 10;
-        count += 1;
+    // The library has no From<u32> for usize.
+    match n.checked_ilog10() {
+        Some(power) => power as usize + 1,
+        None => 1,
     }
-    count
 }
 
 // How many characters the sign takes.

@@ -1,12 +1,12 @@
-use borrow.Author.Rules.{rules}
-use Rattle.whole.proofs.Digits.{count_first, count_next, count_all}
+use mathlib.Core.Path.{sym, ap}
+use native.Mathlib.Omega.{arith}
+use lib.ListN.{length}
+use Rattle.whole.proofs.Digits.{one_digit}
+use Rattle.whole.proofs.Logs.{log_length}
 use Rattle.whole.proofs.digit_count.Goals as goal
 
-pub loop-m-init : goal.loop-m-init
-loop-m-init c = count_first _ (search rules)
+pub returns-in-Some : goal.returns-in-Some
+returns-in-Some c = sym (log_length 10 c.in-Some.power c.args.n c.in-Some.ensures.bound c.in-Some.ensures.power_le c.in-Some.ensures.next_power_gt)
 
-pub loop-m-preserved : goal.loop-m-preserved
-loop-m-preserved c = count_next _ _ _ c.loop-m.invariant c.loop-m-test.true
-
-pub returns : goal.returns
-returns c = count_all _ _ _ c.loop-m.invariant (search rules)
+pub returns-in-None : goal.returns-in-None
+returns-in-None c = let e = c.in-None.ensures.none in sym (ap length (one_digit 9 c.args.n (omega (arith, e))))
