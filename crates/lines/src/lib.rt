@@ -47,7 +47,7 @@ pub fn newline(run: Run, reading: bool, book: &mut BookMut, row: &[u32]) -> Outc
         return events::newline(run, reading, book, row);
     }
     let last = running::moved(run, run.end.page, run.end.line, run.end.character);
-    Ok(stores::end_line(last, book))
+    Ok(stores::end_line_in(last, book))
 }
 
 // Follows a newline that was answered and not in read mood: most often it is written at the logical end, and signals nothing.
