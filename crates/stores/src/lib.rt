@@ -2,10 +2,11 @@
 // of a page.
 #![tactic(auto)]
 
-ghost use Rattle.std.specs.Prelude.{◌≡◌, ◌+◌, ◌≤◌, ◌<◌, ◌^◌, set};
+ghost use Rattle.std.specs.Prelude.{◌≡◌, ◌+◌, ◌≤◌, ◌<◌, ◌^◌, length, set};
 ghost use Rattle.rules.specs.Book.{place, lengths, character_index, state};
 ghost use Rattle.places.specs.Lent.{state_over, SameMemory};
 ghost use Rattle.rules.specs.Step.{done, goes_back, end_after, all_from, lengths_after, blanks, blank_line, blank_lines, fill_page, end_line, end_page};
+ghost use Rattle.std.proofs.lemmas.List.Edits.{sets};
 ghost use Rattle.laws.specs.Runs.{stored_by};
 ghost use Rattle.places.specs.Small.{Small};
 
@@ -18,6 +19,16 @@ pub fn store_byte(bytes: &mut [u8], i: usize, b: u8)
 {
     if i < bytes.len() {
         bytes[i] = b;
+    }
+}
+
+// Stores a run of bytes from an index on. It is no `copy_from_slice`: by that the library for C would need one more function from outside.
+pub fn store_run(text: &mut [u8], at: usize, bytes: &[u8])
+    requires { at + length bytes.now ≤ length text.old }
+    ensures { text.new ≡ sets text.old at bytes.now }
+{
+    for (i, byte) in bytes.iter().enumerate() {
+        text[at + i] = *byte;
     }
 }
 

@@ -77,7 +77,7 @@ pub fn store_some(run: Run, some: &[u8], book: &mut BookMut) -> Run
         position.line,
         position.character,
     );
-    book.text[at..at + some.len()].copy_from_slice(some);
+    stores::store_run(book.text, at, some);
     stores::stored(run, some.len(), book.lines, book.pages)
 }
 
@@ -178,7 +178,7 @@ pub fn take_some(run: Run, text: &[u8], room: &mut [u8]) -> Run
         position.character,
     );
     let count = room.len();
-    room.copy_from_slice(&text[at..at + count]);
+    stores::store_run(room, 0, &text[at..at + count]);
     running::moved(
         run,
         position.page,

@@ -5,7 +5,7 @@ use lib.ListN.{set, get_or}
 use lib.Seq.{sets}
 use mathlib.Core.List.{List}
 use Rattle.std.proofs.lemmas.List.{take_all}
-use Rattle.whole.proofs.Joined.{set_next}
+use Rattle.stores.proofs.Fills.{set_next}
 use Rattle.whole.proofs.store_text.Goals as goal
 
 pub loop-i-preserved : goal.loop-i-preserved
