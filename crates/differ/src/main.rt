@@ -2,7 +2,6 @@
 // character, and the two texts there.
 #![tactic(auto)]
 
-use differs::Books;
 use plays::Telling;
 use rules::Refusal;
 use scenes::Side;
@@ -124,15 +123,10 @@ fn write_refused<W: Write>(writer: &mut W, refusal: Refusal) -> io::Result<()> {
     writer.write_all(console::written(&output))
 }
 
-// The list of the spans where two sides differ, over the parts that they lend: how many there are.
-fn list_spans(before: &Side, after: &Side, list: &mut [u8]) -> Result<usize, Refusal> {
-    Books::both(before.checked(), after.checked())?.list(list)
-}
-
 // Compares two sides, and writes every span.
 fn compare<W: Write>(writer: &mut W, before: &Side, after: &Side) -> io::Result<()> {
     let mut list = [0; LIST];
-    let count = match list_spans(before, after, &mut list) {
+    let count = match script::list_differences(before, after, &mut list) {
         Ok(0) => return writer.write_all(b"nothing differs\n"),
         Ok(count) => count,
         Err(refusal) => return write_refused(writer, refusal),
@@ -178,7 +172,7 @@ fn play_named<R: Files, W: Write, E: Write>(
         Ok((mut source, path)) => {
             let mut player = Player::new();
             plays::play_all(&mut source, writer, Telling::ByName(path), &mut player)?;
-            Ok(Some(player.stage.first))
+            Ok(Some(*player.stage.first()))
         }
         Err(error) => {
             write_unread(complaints, name, error)?;

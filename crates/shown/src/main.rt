@@ -42,18 +42,14 @@ fn write_refused<W: Write>(writer: &mut W, refusal: Refusal) -> io::Result<()> {
     writer.write_all(console::written(&output))
 }
 
-// Shows a line, if it is shown: page, line, how many characters, and the characters or a marker.
+// Shows a line, if it is shown: page, line, how many characters, and the characters or the marker.
 fn write_line<W: Write>(writer: &mut W, side: &Side, page: usize, line: usize) -> io::Result<()> {
     let Ok(stored) = side.view(page, line, b"") else {
         return Ok(());
     };
     let count = stored.len();
     write!(writer, "{page} {line} {count} ")?;
-    writer.write_all(if stored.is_empty() {
-        b"(blank)"
-    } else {
-        stored
-    })?;
+    writer.write_all(side.line_view(page, line, b"(blank)"))?;
     writeln!(writer)
 }
 
