@@ -2,14 +2,16 @@
 // character, and the two texts there.
 #![tactic(auto)]
 
+use arrayvec::ArrayString;
+use console::Hex;
 use plays::Telling;
 use rules::Refusal;
 use scenes::Side;
 use script::Player;
 use std::env::FillError;
-use std::fmt::InlineText;
+use std::fmt::{InlineText, Write as _};
 use std::fs::File;
-use std::io::{Read, Write};
+use std::io::{ErrorKind, Read, Write};
 use std::rt::{Env, Files};
 use std::{fmt, io, str};
 
@@ -26,14 +28,20 @@ struct Quoted<'a>(&'a [u8]);
 
 impl fmt::Display for Quoted<'_> {
     fn fmt<W: fmt::Write>(&self, f: &mut fmt::Formatter<W>) -> fmt::Result {
-        write!(f, "\"")?;
-        for byte in self.0 {
-            match *byte {
-                printable @ b' '..=b'~' => f.write_char(char::from(printable))?,
-                other => write!(f, "\\x{other:02x}")?,
+        f.write_str("\"")?;
+        for part in self
+            .0
+            .split_inclusive(|byte| !characters::is_printable(*byte))
+        {
+            let printable = characters::leading_printable(part);
+            let (text, other) = part.split_at(printable);
+            f.write_str(str::from_utf8(text).map_err(|_| fmt::Error)?)?;
+            if !other.is_empty() {
+                f.write_str("\\x")?;
+                f.write(Hex(other))?;
             }
         }
-        write!(f, "\"")
+        f.write_str("\"")
     }
 }
 
@@ -100,13 +108,19 @@ impl fmt::Display for Part<'_> {
     }
 }
 
-// Writes a span, and what both books show there.
-fn write_span<W: Write>(writer: &mut W, span: Span, before: &Side, after: &Side) -> io::Result<()> {
-    let mut output = io::Cursor::new([0; OUTPUT]);
+// Writes a span, and what both books show there: composed in a lent text first, which is cleared and not made anew for each.
+fn write_span<W: Write>(
+    writer: &mut W,
+    output: &mut ArrayString<OUTPUT>,
+    span: Span,
+    before: &Side,
+    after: &Side,
+) -> io::Result<()> {
     let here = Part { side: before, span };
     let there = Part { side: after, span };
-    writeln!(output, "{span}: {here} | {there}")?;
-    writer.write_all(console::written(&output))
+    output.clear();
+    writeln!(output, "{span}: {here} | {there}").map_err(|_| ErrorKind::WriteZero)?;
+    writer.write_all(output.as_bytes())
 }
 
 // Writes why the books are not compared.
@@ -131,9 +145,10 @@ fn compare<W: Write>(writer: &mut W, before: &Side, after: &Side) -> io::Result<
         Ok(count) => count,
         Err(refusal) => return write_refused(writer, refusal),
     };
+    let mut output = ArrayString::new();
     let (spans, _) = list.as_chunks::<4>();
     for span in spans.iter().take(count) {
-        write_span(writer, Span::from(*span), before, after)?;
+        write_span(writer, &mut output, Span::from(*span), before, after)?;
     }
     Ok(())
 }

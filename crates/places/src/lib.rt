@@ -81,18 +81,26 @@ pub fn character_index(shape: Shape, page: usize, line: usize, character: usize)
     line_index(shape, page, line) * shape.characters + (character - 1)
 }
 
+// The length of a line, 0 where it is not there.
+#[tactic(auto, unfolding(rules::specs::Book::line_length))]
+pub fn line_length(shape: Shape, lines: &[u8], pages: &[u8], page: usize, line: usize) -> usize
+    requires { Small shape page line }
+    ensures { (result ≡ line_length shape (lengths lines.now pages.now) page line) × (result ≤ 255) }
+{
+    if page_length(pages, page) < line {
+        return 0;
+    }
+    let index = line_index(shape, page, line);
+    usize::from(lines.get(index).copied().unwrap_or(0))
+}
+
 impl BookRef<'_> {
     // The length of a line, 0 where it is not there.
-    #[tactic(auto, unfolding(rules::specs::Book::line_length))]
     pub fn line_length(&self, shape: Shape, page: usize, line: usize) -> usize
         requires { Small shape page line }
         ensures { (result ≡ line_length shape (lengths self.now.lines.now self.now.pages.now) page line) × (result ≤ 255) }
     {
-        if page_length(self.pages, page) < line {
-            return 0;
-        }
-        let index = line_index(shape, page, line);
-        usize::from(self.lines.get(index).copied().unwrap_or(0))
+        line_length(shape, self.lines, self.pages, page, line)
     }
 
     // Whether a place is in bounds.

@@ -10,7 +10,7 @@ ghost use Rattle.std.proofs.lemmas.List.Edits.{sets};
 ghost use Rattle.laws.specs.Runs.{stored_by};
 ghost use Rattle.places.specs.Small.{Small};
 
-use places::{BookMut, BookRef};
+use places::BookMut;
 use rules::{Position, Run, Shape};
 
 // Stores a byte, if its place is there. By `get_mut` no proof closes: its contract leaves open what the slice is afterwards.
@@ -66,12 +66,7 @@ pub fn blank_line(
     requires le_character { (1 ≤ character) × (character ≤ 256) }
     ensures { text.new ≡ blank_line shape (lengths lines.now pages.now) (place page line character) text.old }
 {
-    let lengths = BookRef {
-        text: &[],
-        lines,
-        pages,
-    };
-    let size = lengths.line_length(shape, page, line);
+    let size = places::line_length(shape, lines, pages, page, line);
     let from = places::character_index(shape, page, line, character);
     blank(text, from, (size + 1).saturating_sub(character));
 }

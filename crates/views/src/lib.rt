@@ -100,7 +100,9 @@ impl ViewPlace {
     }
 }
 
-// The line view in numbers: a shown line in the text; the whole marker where it is empty, and no part of it where it is refused.
+// The line view in numbers: a shown line in the text; the whole marker where it is empty, and no part of it where it is refused. It is
+// part of each caller too.
+#[inline(always)]
 pub fn view_place(
     file: File,
     end: Position,
