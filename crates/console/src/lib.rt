@@ -30,7 +30,7 @@ impl fmt::Display for Hex<'_> {
         for part in self.0.chunks(PART) {
             let mut digits = [[0; 2]; PART];
             for (pair, byte) in digits.iter_mut().zip(part) {
-                *pair = pair_of(*byte);
+                *pair = digits_of(*byte);
             }
             let written = digits[..part.len().min(PART)].as_flattened();
             f.write_str(str::from_utf8(written).map_err(|_| fmt::Error)?)?;
@@ -45,7 +45,7 @@ const PART: usize = 64;
 const DIGITS: [u8; 16] = *b"0123456789abcdef";
 
 // The two hexadecimal digits of a byte.
-fn pair_of(byte: u8) -> [u8; 2]
+pub fn digits_of(byte: u8) -> [u8; 2]
     ensures { result ≡ slice_index DIGITS (byte / 16) ∷ slice_index DIGITS (byte % 16) ∷ [] }
 {
     [

@@ -3,7 +3,6 @@
 #![tactic(auto)]
 
 use arrayvec::ArrayString;
-use console::Hex;
 use plays::Telling;
 use rules::Refusal;
 use scenes::Side;
@@ -36,9 +35,10 @@ impl fmt::Display for Quoted<'_> {
             let printable = characters::leading_printable(part);
             let (text, other) = part.split_at(printable);
             f.write_str(str::from_utf8(text).map_err(|_| fmt::Error)?)?;
-            if !other.is_empty() {
-                f.write_str("\\x")?;
-                f.write(Hex(other))?;
+            if let [byte] = other {
+                let [high, low] = console::digits_of(*byte);
+                let escape = [b'\\', b'x', high, low];
+                f.write_str(str::from_utf8(&escape).map_err(|_| fmt::Error)?)?;
             }
         }
         f.write_str("\"")
