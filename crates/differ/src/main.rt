@@ -28,20 +28,42 @@ struct Quoted<'a>(&'a [u8]);
 impl fmt::Display for Quoted<'_> {
     fn fmt<W: fmt::Write>(&self, f: &mut fmt::Formatter<W>) -> fmt::Result {
         f.write_str("\"")?;
-        for part in self
-            .0
-            .split_inclusive(|byte| !characters::is_printable(*byte))
-        {
-            let printable = characters::leading_printable(part);
-            let (text, other) = part.split_at(printable);
-            f.write_str(str::from_utf8(text).map_err(|_| fmt::Error)?)?;
-            if let [byte] = other {
-                let [high, low] = console::digits_of(*byte);
-                let escape = [b'\\', b'x', high, low];
-                f.write_str(str::from_utf8(&escape).map_err(|_| fmt::Error)?)?;
+        for run in self.0.chunk_by(are_alike) {
+            match run {
+                [first, ..] if characters::is_printable(*first) => {
+                    f.write_str(str::from_utf8(run).map_err(|_| fmt::Error)?)?
+                }
+                _ => f.write(Escaped(run))?,
             }
         }
         f.write_str("\"")
+    }
+}
+
+// Whether both bytes are printable, or neither is.
+fn are_alike(x: &u8, y: &u8) -> bool {
+    characters::is_printable(*x) == characters::is_printable(*y)
+}
+
+// Bytes that are written as `\x` and two hexadecimal digits each.
+#[derive(Clone, Copy)]
+struct Escaped<'a>(&'a [u8]);
+
+// How many are written at a time.
+const PART: usize = 64;
+
+impl fmt::Display for Escaped<'_> {
+    fn fmt<W: fmt::Write>(&self, f: &mut fmt::Formatter<W>) -> fmt::Result {
+        for part in self.0.chunks(PART) {
+            let mut escapes = [[0; 4]; PART];
+            for (escape, byte) in escapes.iter_mut().zip(part) {
+                let [high, low] = console::digits_of(*byte);
+                *escape = [b'\\', b'x', high, low];
+            }
+            let written = escapes[..part.len().min(PART)].as_flattened();
+            f.write_str(str::from_utf8(written).map_err(|_| fmt::Error)?)?;
+        }
+        Ok(())
     }
 }
 

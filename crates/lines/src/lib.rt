@@ -37,7 +37,9 @@ pub fn character_event(
     }
 }
 
-// Newline: most often it is written at the logical end, in a page with that line, and signals nothing.
+// Newline: most often it is written at the logical end, in a page with that line, and signals nothing. It is part
+// of each caller, so that no record is copied.
+#[inline(always)]
 pub fn newline(run: Run, reading: bool, book: &mut BookMut, row: &[u32]) -> Outcome
     requires { Ready row.now (Action.newline reading) (state_over run book.old) }
     ensures memory { SameMemory book.old book.new }

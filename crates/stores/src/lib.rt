@@ -248,7 +248,9 @@ pub fn end_page(run: Run, book: &mut BookMut) -> Run
     running::both_moved(run, page + 1, 1, 1)
 }
 
-// Blanks the rest of the position's line, and the later lines of its page. The lengths are lent as those of the book, and stay.
+// Blanks the rest of the position's line, and the later lines of its page. The lengths are lent as those of the book, and stay. It is
+// seldom called, and its loop has the registers for itself where it is no part of its caller.
+#[inline(never)]
 fn blank_page(run: Run, text: &mut [u8], lines: &mut [u8], pages: &mut [u8])
     requires small { Small run.file.shape run.file.position.page run.file.position.line }
     requires le_character { (1 ≤ run.file.position.character) × (run.file.position.character ≤ 256) }
