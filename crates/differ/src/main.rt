@@ -2,15 +2,15 @@
 // character, and the two texts there.
 #![tactic(auto)]
 
-use differs::Books;
+use arrayvec::ArrayString;
 use plays::Telling;
 use rules::Refusal;
 use scenes::Side;
 use script::Player;
 use std::env::FillError;
-use std::fmt::InlineText;
+use std::fmt::{InlineText, Write as _};
 use std::fs::File;
-use std::io::{Read, Write};
+use std::io::{ErrorKind, Read, Write};
 use std::rt::{Env, Files};
 use std::{fmt, io, str};
 
@@ -27,14 +27,43 @@ struct Quoted<'a>(&'a [u8]);
 
 impl fmt::Display for Quoted<'_> {
     fn fmt<W: fmt::Write>(&self, f: &mut fmt::Formatter<W>) -> fmt::Result {
-        write!(f, "\"")?;
-        for byte in self.0 {
-            match *byte {
-                printable @ b' '..=b'~' => f.write_char(char::from(printable))?,
-                other => write!(f, "\\x{other:02x}")?,
+        f.write_str("\"")?;
+        for run in self.0.chunk_by(are_alike) {
+            match run {
+                [first, ..] if characters::is_printable(*first) => {
+                    f.write_str(str::from_utf8(run).map_err(|_| fmt::Error)?)?
+                }
+                _ => f.write(Escaped(run))?,
             }
         }
-        write!(f, "\"")
+        f.write_str("\"")
+    }
+}
+
+// Whether both bytes are printable, or neither is.
+fn are_alike(x: &u8, y: &u8) -> bool {
+    characters::is_printable(*x) == characters::is_printable(*y)
+}
+
+// Bytes that are written as `\x` and two hexadecimal digits each.
+#[derive(Clone, Copy)]
+struct Escaped<'a>(&'a [u8]);
+
+// How many are written at a time.
+const PART: usize = 64;
+
+impl fmt::Display for Escaped<'_> {
+    fn fmt<W: fmt::Write>(&self, f: &mut fmt::Formatter<W>) -> fmt::Result {
+        for part in self.0.chunks(PART) {
+            let mut escapes = [[0; 4]; PART];
+            for (escape, byte) in escapes.iter_mut().zip(part) {
+                let [high, low] = console::digits_of(*byte);
+                *escape = [b'\\', b'x', high, low];
+            }
+            let written = escapes[..part.len().min(PART)].as_flattened();
+            f.write_str(str::from_utf8(written).map_err(|_| fmt::Error)?)?;
+        }
+        Ok(())
     }
 }
 
@@ -101,13 +130,19 @@ impl fmt::Display for Part<'_> {
     }
 }
 
-// Writes a span, and what both books show there.
-fn write_span<W: Write>(writer: &mut W, span: Span, before: &Side, after: &Side) -> io::Result<()> {
-    let mut output = io::Cursor::new([0; OUTPUT]);
+// Writes a span, and what both books show there: composed in a lent text first, which is cleared and not made anew for each.
+fn write_span<W: Write>(
+    writer: &mut W,
+    output: &mut ArrayString<OUTPUT>,
+    span: Span,
+    before: &Side,
+    after: &Side,
+) -> io::Result<()> {
     let here = Part { side: before, span };
     let there = Part { side: after, span };
-    writeln!(output, "{span}: {here} | {there}")?;
-    writer.write_all(console::written(&output))
+    output.clear();
+    writeln!(output, "{span}: {here} | {there}").map_err(|_| ErrorKind::WriteZero)?;
+    writer.write_all(output.as_bytes())
 }
 
 // Writes why the books are not compared.
@@ -124,22 +159,18 @@ fn write_refused<W: Write>(writer: &mut W, refusal: Refusal) -> io::Result<()> {
     writer.write_all(console::written(&output))
 }
 
-// The list of the spans where two sides differ, over the parts that they lend: how many there are.
-fn list_spans(before: &Side, after: &Side, list: &mut [u8]) -> Result<usize, Refusal> {
-    Books::both(before.checked(), after.checked())?.list(list)
-}
-
 // Compares two sides, and writes every span.
 fn compare<W: Write>(writer: &mut W, before: &Side, after: &Side) -> io::Result<()> {
     let mut list = [0; LIST];
-    let count = match list_spans(before, after, &mut list) {
+    let count = match script::list_differences(before, after, &mut list) {
         Ok(0) => return writer.write_all(b"nothing differs\n"),
         Ok(count) => count,
         Err(refusal) => return write_refused(writer, refusal),
     };
+    let mut output = ArrayString::new();
     let (spans, _) = list.as_chunks::<4>();
     for span in spans.iter().take(count) {
-        write_span(writer, Span::from(*span), before, after)?;
+        write_span(writer, &mut output, Span::from(*span), before, after)?;
     }
     Ok(())
 }
@@ -178,7 +209,7 @@ fn play_named<R: Files, W: Write, E: Write>(
         Ok((mut source, path)) => {
             let mut player = Player::new();
             plays::play_all(&mut source, writer, Telling::ByName(path), &mut player)?;
-            Ok(Some(player.stage.first))
+            Ok(Some(*player.stage.first()))
         }
         Err(error) => {
             write_unread(complaints, name, error)?;

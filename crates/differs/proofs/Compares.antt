@@ -1,5 +1,5 @@
 -- The tests of both books, the list that is left, and the ways of the two calls. Assumes nothing.
-use mathlib.Core.Path.{◌≡◌, refl, sym, ap, ◌∙◌}
+use mathlib.Core.Path.{◌≡◌, refl, sym, ap, subst, ◌∙◌}
 use Prim.Native.Nat.{ℕ, ◌+◌, ◌*◌, ◌/◌, ◌≤◌}
 use native.Mathlib.Omega.{arith}
 use mathlib.Core.Bool.{Bool, true, false, ◌&&◌}
@@ -184,9 +184,11 @@ module _ (f : File) (b : Book) (f' : File) (b' : Book) {r r' : Run} (e : r ≡ r
     tested : BothTested (state r b.lines b.pages) b.text (state r' b'.lines b'.pages) b'.text (both x y)
     tested = both_tested r b.text b.lines b.pages r' b'.text b'.lines b'.pages x y h h'
 
-    pub differ_call : {d : Differences} (z : Result ℕ Refusal) (l list : List ℕ) → d ≡ differences_of z → Lists (both x y) z l list → compared b b' (answer d.number d.count l) ≡ differ f b f' b' list
+    pub differ_call : {w : Result Books Refusal} → w ≡ both x y → (z : Result ℕ Refusal) (l list : List ℕ) → Lists w z l list → compared b b' (answer_of z l) ≡ differ f b f' b' list
     unfolding differ
-    differ_call z l list i k = ap (compared b b') (answer_as z l i ∙ list_as (state r b.lines b.pages) b.text (state r' b'.lines b'.pages) b'.text (both x y) tested z l list k ∙ entered (λ (p q : State). compare p b.text q b'.text list))
+    differ_call i z l list k =
+        let lists = subst (λ (w : Result Books Refusal). Lists w z l list) i k in
+        ap (compared b b') (list_as (state r b.lines b.pages) b.text (state r' b'.lines b'.pages) b'.text (both x y) tested z l list lists ∙ entered (λ (p q : State). compare p b.text q b'.text list))
 
     pub count_call : {d : Differences} → d ≡ differences_of (counted (both x y)) → compared b b' (answer d.number d.count []) ≡ difference_count f b f' b'
     unfolding difference_count

@@ -225,6 +225,25 @@ pub fn difference_count(
     Differences::from(counted)
 }
 
+// The list of the spans, and how many there are, or the refusal. The parameters come as those of `differ`.
+pub fn list_differences(
+    file: File,
+    other_file: File,
+    end: Position,
+    book: &BookRef,
+    other_end: Position,
+    other_book: &BookRef,
+    list: &mut [u8],
+) -> Result<usize, Refusal>
+    ensures { compared (shared_book book.now end) (shared_book other_book.now other_end) (answer_of result list.new) ≡ differ file (shared_book book.now end) other_file (shared_book other_book.now other_end) list.old }
+{
+    let run = entry::start(file, end);
+    let other = entry::start(other_file, other_end);
+    let first = CheckedBook::check(run, *book);
+    let second = CheckedBook::check(other, *other_book);
+    Books::both(first, second)?.list(list)
+}
+
 // The list of the spans. The parameters come in the order of the C interface, with the list that is lent.
 pub fn differ(
     file: File,
@@ -237,13 +256,6 @@ pub fn differ(
 ) -> Differences
     ensures { compared (shared_book book.now end) (shared_book other_book.now other_end) (answer result.number result.count list.new) ≡ differ file (shared_book book.now end) other_file (shared_book other_book.now other_end) list.old }
 {
-    let run = entry::start(file, end);
-    let other = entry::start(other_file, other_end);
-    let first = CheckedBook::check(run, *book);
-    let second = CheckedBook::check(other, *other_book);
-    let listed = match Books::both(first, second) {
-        Ok(books) => books.list(list),
-        Err(refusal) => Err(refusal),
-    };
+    let listed = list_differences(file, other_file, end, book, other_end, other_book, list);
     Differences::from(listed)
 }

@@ -156,18 +156,31 @@ pub fn all_fits(run: Run, book: &BookRef) -> bool
 }
 
 // Whether shape, lent sizes and lengths fit.
-pub fn is_sound(shape: Shape, book: &BookRef) -> bool
-    ensures { result ≡ sound shape (length book.now.text.now) book.now.lines.now book.now.pages.now }
+pub fn is_sound(shape: Shape, text: usize, lines: &[u8], pages: &[u8]) -> bool
+    ensures { result ≡ sound shape text lines.now pages.now }
 {
+    // The lengths are looked at without the text.
+    let lengths = BookRef {
+        text: &[],
+        lines: lines,
+        pages: pages,
+    };
     is_legal(shape)
-        && sizes_fit(shape, book.text.len(), book.lines.len(), book.pages.len())
-        && lengths_fit(shape, book)
+        && sizes_fit(shape, text, lines.len(), pages.len())
+        && lengths_fit(shape, &lengths)
 }
 
 // How many places a line has for a position, 0 where there is no such line: in sound memory no index has to be looked at.
-pub fn places_on(shape: Shape, book: &BookRef, page: usize, line: usize) -> usize
-    requires { Lent shape (length book.now.text.now) book.now.lines.now book.now.pages.now }
-    ensures { (result ≡ places_on shape (lengths book.now.lines.now book.now.pages.now) page line) × (result ≤ 256) }
+pub fn places_on(
+    shape: Shape,
+    text: usize,
+    lines: &[u8],
+    pages: &[u8],
+    page: usize,
+    line: usize,
+) -> usize
+    requires { Lent shape text lines.now pages.now }
+    ensures { (result ≡ places_on shape (lengths lines.now pages.now) page line) × (result ≤ 256) }
 {
     if page == 0 {
         return 0;
@@ -176,34 +189,41 @@ pub fn places_on(shape: Shape, book: &BookRef, page: usize, line: usize) -> usiz
         return 0;
     }
     let mut size = 0;
-    if page <= book.pages.len() {
-        size = usize::from(book.pages[page - 1]);
+    if page <= pages.len() {
+        size = usize::from(pages[page - 1]);
         if line <= size {
             let i = (page - 1) * shape.lines + (line - 1);
-            return usize::from(book.lines[i]) + 1;
+            return usize::from(lines[i]) + 1;
         }
-    } else if page != book.pages.len() + 1 {
+    } else if page != pages.len() + 1 {
         return 0;
     }
     if line == size + 1 { 1 } else { 0 }
 }
 
 // Whether a place is in bounds.
-pub fn is_within(shape: Shape, book: &BookRef, to: Position) -> bool
-    requires { Lent shape (length book.now.text.now) book.now.lines.now book.now.pages.now }
-    ensures { result ≡ in_bounds shape (lengths book.now.lines.now book.now.pages.now) to }
+pub fn is_within(shape: Shape, text: usize, lines: &[u8], pages: &[u8], to: Position) -> bool
+    requires { Lent shape text lines.now pages.now }
+    ensures { result ≡ in_bounds shape (lengths lines.now pages.now) to }
 {
     if to.character < 1 {
         return false;
     }
-    to.character <= places_on(shape, book, to.page, to.line)
+    to.character <= places_on(shape, text, lines, pages, to.page, to.line)
 }
 
 // Whether a position is in bounds and not beyond the logical end, which is in bounds: on its line nothing has to be looked up.
-pub fn is_reached(shape: Shape, book: &BookRef, position: Position, end: Position) -> bool
-    requires lent { Lent shape (length book.now.text.now) book.now.lines.now book.now.pages.now }
-    requires end_in_bounds { in_bounds shape (lengths book.now.lines.now book.now.pages.now) end ≡ true }
-    ensures { result ≡ (not (before end position) && in_bounds shape (lengths book.now.lines.now book.now.pages.now) position) }
+pub fn is_reached(
+    shape: Shape,
+    text: usize,
+    lines: &[u8],
+    pages: &[u8],
+    position: Position,
+    end: Position,
+) -> bool
+    requires lent { Lent shape text lines.now pages.now }
+    requires end_in_bounds { in_bounds shape (lengths lines.now pages.now) end ≡ true }
+    ensures { result ≡ (not (before end position) && in_bounds shape (lengths lines.now pages.now) position) }
 {
     if position.character < 1 {
         return false;
@@ -218,7 +238,7 @@ pub fn is_reached(shape: Shape, book: &BookRef, position: Position, end: Positio
     } else if end.page < position.page {
         return false;
     }
-    position.character <= places_on(shape, book, position.page, position.line)
+    position.character <= places_on(shape, text, lines, pages, position.page, position.line)
 }
 
 // The first half of the tests before work: 1 where the record is not open; 3 where its flags, its shape, the lent sizes or the lengths do
@@ -233,7 +253,7 @@ pub fn test_memory(file: File, book: &BookRef) -> Result<(), Refusal>
     if !flags_fit(file) {
         return Err(Refusal::BadBook);
     }
-    if is_sound(shape, book) {
+    if is_sound(shape, book.text.len(), book.lines, book.pages) {
         Ok(())
     } else {
         Err(Refusal::BadBook)
@@ -247,10 +267,17 @@ pub fn test_places(file: File, end: Position, book: &BookRef) -> Result<(), Refu
 {
     let shape = file.shape;
     let position = file.position;
-    if !is_within(shape, book, end) {
+    if !is_within(shape, book.text.len(), book.lines, book.pages, end) {
         return Err(Refusal::BadBook);
     }
-    if is_reached(shape, book, position, end) {
+    if is_reached(
+        shape,
+        book.text.len(),
+        book.lines,
+        book.pages,
+        position,
+        end,
+    ) {
         Ok(())
     } else {
         Err(Refusal::BadBook)

@@ -88,7 +88,7 @@ pub fn newline(run: Run, reading: bool, book: &mut BookMut, row: &[u32]) -> Outc
         }
         let last = running::moved(at, at.end.page, at.end.line, at.end.character);
         if !reading {
-            return Ok(stores::end_line(last, book));
+            return Ok(stores::end_line_in(last, book));
         }
         here = last;
     }

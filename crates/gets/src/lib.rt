@@ -35,7 +35,7 @@ pub fn get_character(file: File, end: Position, book: &mut BookMut, row: &[u32])
     ensures answer { after_over result [] book.new ≡ call (asking gets_character row.now) file (book_of book.old end) }
 {
     let start = entry::start(file, end);
-    match begins::prepared(start, true, book, row) {
+    match begins::prepared(start, true, &book.shared(), row) {
         Ok(on) => entry::given(one_character(on, book, row)),
         Err(ended) => entry::ended(Err(ended)),
     }
@@ -54,7 +54,7 @@ pub fn get_string(
     ensures answer { after_over result output.new book.new ≡ call (asking (gets_string terminators.now output.old) row.now) file (book_of book.old end) }
 {
     let start = entry::start(file, end);
-    match begins::prepared(start, true, book, row) {
+    match begins::prepared(start, true, &book.shared(), row) {
         Ok(on) => {
             let got = strings::get_string(on, terminators, output, book, row);
             entry::reply(got.run, got.count, Err(got.ending))
@@ -69,7 +69,7 @@ pub fn get_integer(file: File, end: Position, book: &mut BookMut, row: &[u32]) -
     ensures answer { after_over result [] book.new ≡ call (asking gets_integer row.now) file (book_of book.old end) }
 {
     let start = entry::start(file, end);
-    match begins::prepared(start, true, book, row) {
+    match begins::prepared(start, true, &book.shared(), row) {
         Ok(on) => {
             let found = integers::take_integer(on, book, row);
             entry::given(found)

@@ -19,7 +19,7 @@ pub fn space(file: File, end: Position, book: &mut BookMut, row: &[u32]) -> Repl
     ensures answer { after_over result [] book.new ≡ call (asking spaces row.now) file (book_of book.old end) }
 {
     let start = entry::start(file, end);
-    match begins::in_mood(start, book, row) {
+    match begins::in_mood(start, &book.shared(), row) {
         Ok(on) => entry::ended(lines::space(on, file.reading, book, row)),
         Err(ended) => entry::ended(Err(ended)),
     }
@@ -31,7 +31,7 @@ pub fn newline(file: File, end: Position, book: &mut BookMut, row: &[u32]) -> Re
     ensures answer { after_over result [] book.new ≡ call (asking newlines row.now) file (book_of book.old end) }
 {
     let start = entry::start(file, end);
-    match begins::in_mood(start, book, row) {
+    match begins::in_mood(start, &book.shared(), row) {
         Ok(on) => entry::ended(lines::newline(on, file.reading, book, row)),
         Err(ended) => entry::ended(Err(ended)),
     }
@@ -43,7 +43,7 @@ pub fn newpage(file: File, end: Position, book: &mut BookMut, row: &[u32]) -> Re
     ensures answer { after_over result [] book.new ≡ call (asking newpages row.now) file (book_of book.old end) }
 {
     let start = entry::start(file, end);
-    match begins::in_mood(start, book, row) {
+    match begins::in_mood(start, &book.shared(), row) {
         Ok(on) => entry::ended(events::newpage(on, file.reading, book, row)),
         Err(ended) => entry::ended(Err(ended)),
     }
@@ -61,7 +61,7 @@ pub fn set_character_number(
     ensures answer { after_over result [] book.new ≡ call (asking (sets_character_number n) row.now) file (book_of book.old end) }
 {
     let start = entry::start(file, end);
-    match begins::in_mood(start, book, row) {
+    match begins::in_mood(start, &book.shared(), row) {
         Ok(on) => entry::ended(lines::set_character_number(on, file.reading, n, book, row)),
         Err(ended) => entry::ended(Err(ended)),
     }
@@ -94,7 +94,7 @@ pub fn set(file: File, end: Position, to: Position, book: &mut BookMut, row: &[u
     ensures answer { after_over result [] book.new ≡ call (asking (sets to) row.now) file (book_of book.old end) }
 {
     let start = entry::start(file, end);
-    match begins::may_set(start, book, row) {
+    match begins::may_set(start, &book.shared(), row) {
         Ok(on) => entry::ended(placed(on, file, to, book, row)),
         Err(ended) => entry::ended(Err(ended)),
     }

@@ -37,7 +37,9 @@ pub fn character_event(
     }
 }
 
-// Newline: most often it is written at the logical end, in a page with that line, and signals nothing.
+// Newline: most often it is written at the logical end, in a page with that line, and signals nothing. It is part
+// of each caller, so that no record is copied.
+#[inline(always)]
 pub fn newline(run: Run, reading: bool, book: &mut BookMut, row: &[u32]) -> Outcome
     requires { Ready row.now (Action.newline reading) (state_over run book.old) }
     ensures memory { SameMemory book.old book.new }
@@ -47,7 +49,7 @@ pub fn newline(run: Run, reading: bool, book: &mut BookMut, row: &[u32]) -> Outc
         return events::newline(run, reading, book, row);
     }
     let last = running::moved(run, run.end.page, run.end.line, run.end.character);
-    Ok(stores::end_line(last, book))
+    Ok(stores::end_line_in(last, book))
 }
 
 // Follows a newline that was answered and not in read mood: most often it is written at the logical end, and signals nothing.

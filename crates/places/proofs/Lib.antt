@@ -1,1 +1,2 @@
 pub mod Goods
+pub mod Shared

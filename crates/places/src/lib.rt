@@ -2,7 +2,7 @@
 #![tactic(auto)]
 
 ghost use Rattle.std.specs.Prelude.{◌≡◌, false, ◌≤◌, ◌<◌, ◌^◌, get_or};
-ghost use Rattle.rules.specs.Book.{place, before, lengths, page_length, line_index, line_length, character_index, in_bounds};
+ghost use Rattle.rules.specs.Book.{place, before, lengths, state, page_length, line_index, line_length, character_index, in_bounds};
 ghost use Rattle.rules.specs.Step.{file_ended, page_ended, line_ended, on_end_line};
 ghost use Rattle.places.specs.Small.{Small};
 ghost use Rattle.places.specs.Good.{page_good, line_good};
@@ -81,18 +81,26 @@ pub fn character_index(shape: Shape, page: usize, line: usize, character: usize)
     line_index(shape, page, line) * shape.characters + (character - 1)
 }
 
+// The length of a line, 0 where it is not there.
+#[tactic(auto, unfolding(rules::specs::Book::line_length))]
+pub fn line_length(shape: Shape, lines: &[u8], pages: &[u8], page: usize, line: usize) -> usize
+    requires { Small shape page line }
+    ensures { (result ≡ line_length shape (lengths lines.now pages.now) page line) × (result ≤ 255) }
+{
+    if page_length(pages, page) < line {
+        return 0;
+    }
+    let index = line_index(shape, page, line);
+    usize::from(lines.get(index).copied().unwrap_or(0))
+}
+
 impl BookRef<'_> {
     // The length of a line, 0 where it is not there.
-    #[tactic(auto, unfolding(rules::specs::Book::line_length))]
     pub fn line_length(&self, shape: Shape, page: usize, line: usize) -> usize
         requires { Small shape page line }
         ensures { (result ≡ line_length shape (lengths self.now.lines.now self.now.pages.now) page line) × (result ≤ 255) }
     {
-        if page_length(self.pages, page) < line {
-            return 0;
-        }
-        let index = line_index(shape, page, line);
-        usize::from(self.lines.get(index).copied().unwrap_or(0))
+        line_length(shape, self.lines, self.pages, page, line)
     }
 
     // Whether a place is in bounds.
@@ -104,6 +112,55 @@ impl BookRef<'_> {
         (1..=shape.pages + 1).contains(&to.page)
             && (1..=page_length(self.pages, to.page) + 1).contains(&to.line)
             && (1..=self.line_length(shape, to.page, to.line) + 1).contains(&to.character)
+    }
+
+    // Good page's test. The number of a line that is there is a byte's.
+    pub fn page_ended(&self, run: Run) -> bool
+        ensures { (result ≡ page_ended run self.now.pages.now) × (result ≡ false → run.file.position.line ≤ 255) }
+    {
+        page_length(self.pages, run.file.position.page) < run.file.position.line
+    }
+
+    // Good line's test.
+    pub fn line_ended(&self, run: Run) -> bool
+        requires { Small run.file.shape run.file.position.page run.file.position.line }
+        ensures { result ≡ line_ended (state run self.now.lines.now self.now.pages.now) }
+    {
+        let position = run.file.position;
+        self.line_length(run.file.shape, position.page, position.line) < position.character
+    }
+
+    // Whether the position is in a good page: neither test is met.
+    pub fn page_good(&self, run: Run, reading: bool) -> bool
+        ensures { result ≡ page_good reading run self.now.pages.now }
+    {
+        !file_ended(run, reading) && !self.page_ended(run)
+    }
+
+    // Whether the position is in a good line: none of the three tests is met. A page that ended has no such line, so the line's test is
+    // the page's too.
+    pub fn line_good(&self, run: Run, reading: bool) -> bool
+        requires small { Small run.file.shape run.file.position.page run.file.position.line }
+        requires le_character { 1 ≤ run.file.position.character }
+        ensures { result ≡ line_good reading (state run self.now.lines.now self.now.pages.now) }
+    {
+        !file_ended(run, reading) && !self.line_ended(run)
+    }
+
+    // The character at the position, 0 where it is not there.
+    pub fn character_here(&self, run: Run) -> u8
+        requires small { Small run.file.shape run.file.position.page run.file.position.line }
+        requires le_character { (1 ≤ run.file.position.character) × (run.file.position.character ≤ 256) }
+        ensures { result ≡ get_or self.now.text.now (character_index run.file.shape run.file.position) 0 }
+    {
+        let shape = run.file.shape;
+        let i = character_index(
+            shape,
+            run.file.position.page,
+            run.file.position.line,
+            run.file.position.character,
+        );
+        self.text.get(i).copied().unwrap_or(0)
     }
 }
 
@@ -146,7 +203,7 @@ impl BookMut<'_> {
     pub fn page_ended(&self, run: Run) -> bool
         ensures { (result ≡ page_ended run self.now.pages.now) × (result ≡ false → run.file.position.line ≤ 255) }
     {
-        self.page_length(run.file.position.page) < run.file.position.line
+        self.shared().page_ended(run)
     }
 
     // Good line's test.
@@ -154,25 +211,23 @@ impl BookMut<'_> {
         requires { Small run.file.shape run.file.position.page run.file.position.line }
         ensures { result ≡ line_ended (state_over run self.now) }
     {
-        let position = run.file.position;
-        self.line_length(run.file.shape, position.page, position.line) < position.character
+        self.shared().line_ended(run)
     }
 
-    // Whether the position is in a good page: neither test is met.
+    // Whether the position is in a good page.
     pub fn page_good(&self, run: Run, reading: bool) -> bool
         ensures { result ≡ page_good reading run self.now.pages.now }
     {
-        !file_ended(run, reading) && !self.page_ended(run)
+        self.shared().page_good(run, reading)
     }
 
-    // Whether the position is in a good line: none of the three tests is met. A page that ended has no such line, so the line's test is
-    // the page's too.
+    // Whether the position is in a good line.
     pub fn line_good(&self, run: Run, reading: bool) -> bool
         requires small { Small run.file.shape run.file.position.page run.file.position.line }
         requires le_character { 1 ≤ run.file.position.character }
         ensures { result ≡ line_good reading (state_over run self.now) }
     {
-        !file_ended(run, reading) && !self.line_ended(run)
+        self.shared().line_good(run, reading)
     }
 
     // The character at the position, 0 where it is not there.
@@ -181,13 +236,6 @@ impl BookMut<'_> {
         requires le_character { (1 ≤ run.file.position.character) × (run.file.position.character ≤ 256) }
         ensures { result ≡ get_or self.now.text.now (character_index run.file.shape run.file.position) 0 }
     {
-        let shape = run.file.shape;
-        let i = character_index(
-            shape,
-            run.file.position.page,
-            run.file.position.line,
-            run.file.position.character,
-        );
-        self.text.get(i).copied().unwrap_or(0)
+        self.shared().character_here(run)
     }
 }

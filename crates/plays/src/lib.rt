@@ -1,11 +1,13 @@
 // Plays a whole script: every line of a source, over the two sides of a player.
 #![tactic(auto)]
 
+use arrayvec::ArrayString;
 use console::BadLine;
 use feed::{Line, Lines};
 use script::{Player, Told};
-use std::io;
-use std::io::{Read, Write};
+use std::fmt::Write as _;
+use std::io::{ErrorKind, Read, Write};
+use std::{fmt, io};
 
 // A longer line than this cannot be read; and the most that a line tells, which is the dump of a book.
 pub const LINE: usize = 140000;
@@ -28,25 +30,23 @@ pub fn play_line<'a>(player: &'a mut Player, line: Line<'a>) -> Result<Told<'a>,
     }
 }
 
-// Writes what the line of a number told, or that it cannot be read. It is composed first, and written at once.
-fn tell<W: Write>(
-    writer: &mut W,
-    output: &mut io::Cursor<[u8; OUTPUT]>,
+// Composes what the line of a number told, or that it cannot be read.
+fn compose(
+    output: &mut ArrayString<OUTPUT>,
     telling: Telling,
     number: u64,
     told: Result<Told, BadLine>,
-) -> io::Result<()> {
-    output.set_position(0);
+) -> fmt::Result {
+    output.clear();
     match (told, telling) {
-        (Ok(told), Telling::Aloud) => write!(output, "{told}")?,
-        (Ok(_), Telling::ByName(_)) => {}
-        (Err(BadLine), Telling::Aloud) => writeln!(output, "bad line {number}")?,
-        (Err(BadLine), Telling::ByName(name)) => writeln!(output, "{name}: bad line {number}")?,
+        (Ok(told), Telling::Aloud) => write!(output, "{told}"),
+        (Ok(_), Telling::ByName(_)) => Ok(()),
+        (Err(BadLine), Telling::Aloud) => writeln!(output, "bad line {number}"),
+        (Err(BadLine), Telling::ByName(name)) => writeln!(output, "{name}: bad line {number}"),
     }
-    writer.write_all(console::written(output))
 }
 
-// Plays every line of a source. The loop counts the lines, to a number that no script uses up.
+// Plays every line of a source: what a line tells is composed first, and written at once. The loop counts the lines, to a number that no script uses up.
 pub fn play_all<R: Read, W: Write>(
     source: &mut R,
     writer: &mut W,
@@ -54,18 +54,14 @@ pub fn play_all<R: Read, W: Write>(
     player: &mut Player,
 ) -> io::Result<()> {
     let mut lines: Lines<'_, R, LINE> = Lines::new(source);
-    let mut output = io::Cursor::new([0; OUTPUT]);
+    let mut output = ArrayString::new();
     for number in 1..=u64::MAX {
         let Some(line) = lines.next_line()? else {
             return Ok(());
         };
-        tell(
-            writer,
-            &mut output,
-            telling,
-            number,
-            play_line(player, line),
-        )?;
+        let told = play_line(player, line);
+        compose(&mut output, telling, number, told).map_err(|_| ErrorKind::WriteZero)?;
+        writer.write_all(output.as_bytes())?;
     }
     Ok(())
 }

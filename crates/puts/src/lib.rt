@@ -17,7 +17,7 @@ pub fn put_character(file: File, end: Position, b: u8, book: &mut BookMut, row: 
     ensures answer { after_over result [] book.new ≡ call (asking (puts_character b) row.now) file (book_of book.old end) }
 {
     let start = entry::start(file, end);
-    match begins::prepared(start, false, book, row) {
+    match begins::prepared(start, false, &book.shared(), row) {
         Ok(on) => entry::ended(lines::put_character(on, b, book, row)),
         Err(ended) => entry::ended(Err(ended)),
     }
@@ -29,7 +29,7 @@ pub fn put_string(file: File, end: Position, bytes: &[u8], book: &mut BookMut, r
     ensures answer { after_over result [] book.new ≡ call (asking (puts_string bytes.now) row.now) file (book_of book.old end) }
 {
     let start = entry::start(file, end);
-    match begins::prepared(start, false, book, row) {
+    match begins::prepared(start, false, &book.shared(), row) {
         Ok(on) => entry::ended(strings::put_string(on, bytes, book, row)),
         Err(ended) => entry::ended(Err(ended)),
     }
@@ -42,9 +42,9 @@ pub fn put_integer(file: File, end: Position, v: i32, book: &mut BookMut, row: &
 {
     let start = entry::start(file, end);
     if v == -2147483648 {
-        return entry::ended(begins::lowest(start, book, row));
+        return entry::ended(begins::lowest(start, &book.shared(), row));
     }
-    match begins::prepared(start, false, book, row) {
+    match begins::prepared(start, false, &book.shared(), row) {
         Ok(on) => entry::ended(integers::put_integer(on, v, book, row)),
         Err(ended) => entry::ended(Err(ended)),
     }

@@ -1,7 +1,8 @@
 // The stage of a script, which is two sides, each a record and a book, and the answers for the next call; and the lines that set it.
 #![tactic(auto)]
 
-ghost use Rattle.std.specs.Prelude.{◌≡◌, ◌≤◌, ◌==◌, IfOk, OnErr, count_by, length, take};
+ghost use Rattle.std.specs.Prelude.{◌≡◌, ◌≤◌, ◌==◌, IfOk, OnErr, count_by, length, not, take};
+ghost use Rattle.std.specs.Borrow.{sem};
 ghost use Rattle.console.specs.Words.{words_of};
 ghost use Rattle.scenes.specs.declared.TheConstants.{TEXT, LINES, PAGES, ROW};
 ghost use Rattle.rules.specs.Book.{run_with};
@@ -9,8 +10,7 @@ ghost use Rattle.views.specs.Checked.{Checks};
 
 use console::{BadLine, Pairs, Words};
 use places::BookRef;
-use rules::{File, Position, Refusal, Rights, Shape};
-use std::mem;
+use rules::{Ending, File, Position, Refusal, Rights, Shape};
 use views::CheckedBook;
 
 // ---- the stage
@@ -75,11 +75,12 @@ pub struct Lent<'a> {
     pub row: &'a [u32],
 }
 
-// What a script plays on.
+// What a script plays on: two sides, the answers, and whether the first side is the other one. So an exchange moves no memory.
 #[derive(Drop)]
 pub struct Stage {
-    pub first: Side,
-    pub second: Side,
+    pub one: Side,
+    pub other: Side,
+    pub swapped: bool,
     pub row: Row,
 }
 
@@ -95,6 +96,10 @@ impl Book {
 }
 
 impl Side {
+    ghost use Rattle.rules.specs.Calls.{call, plain, views, view_numbers};
+    ghost use Rattle.views.specs.Spans.{view_after, number_after};
+    ghost use Rattle.scenes.specs.Sides.{book_of, number_of, Seen};
+
     // A side at the start: its book has 2 pages of 3 lines of 8 characters, and its record is not open.
     pub fn new() -> Side {
         let start = Position {
@@ -183,19 +188,37 @@ impl Side {
         CheckedBook::check(run, self.shared())
     }
 
+    // The line view as the call gives it: no part of the marker where the line is not shown.
+    pub fn line_view<'a>(&'a self, page: usize, line: usize, marker: &'a [u8]) -> &'a [u8]
+        ensures { view_after result.now self.now.file (book_of self.now) ≡ call (plain (views page line marker.now)) self.now.file (book_of self.now) }
+    {
+        let BookRef { text, lines, pages } = self.shared();
+        views::line_view(self.file, self.end, page, line, text, lines, pages, marker)
+    }
+
+    // The test of a view, by its number: the refusal where the line is not shown.
+    #[tactic(auto, using(crate::proofs::Views::seen_done, crate::proofs::Views::seen_stopped, crate::proofs::Views::seen_refused, crate::proofs::Views::seen_refused_at))]
+    fn test_view(&self, page: usize, line: usize) -> Result<(), Refusal>
+        ensures { number_after (number_of result) self.now.file (book_of self.now) ≡ call (plain (view_numbers page line)) self.now.file (book_of self.now) }
+    {
+        let asked = views::view_number(self.file, self.end, page, line, &self.shared());
+        match asked.given {
+            Ok(_) | Err(Ending::Stopped(_)) => Ok(()),
+            Err(Ending::Refused(refusal) | Ending::RefusedAt(_, refusal)) => Err(refusal),
+        }
+    }
+
     // The view of a line: its characters, or the marker where it has none; the refusal where it is not shown.
     pub fn view<'a>(
         &'a self,
         page: usize,
         line: usize,
         marker: &'a [u8],
-    ) -> Result<&'a [u8], Refusal> {
-        let file = self.file;
-        let end = self.end;
-        let book = self.shared();
-        views::span_of(entry::start(file, end), page, line, &book)?;
-        let BookRef { text, lines, pages } = book;
-        Ok(views::line_view(file, end, page, line, text, lines, pages, marker))
+    ) -> Result<&'a [u8], Refusal>
+        ensures { Seen page line marker.now self.now.file (book_of self.now) result }
+    {
+        self.test_view(page, line)?;
+        Ok(self.line_view(page, line, marker))
     }
 }
 
@@ -237,31 +260,73 @@ impl Row {
 }
 
 impl Stage {
+    ghost use Rattle.scenes.specs.Sides.{first_of, second_of, LendsFirst};
+
     // The stage that a script starts with: both sides alike.
     pub fn new() -> Stage
-        ensures { result.first ≡ result.second }
+        ensures { first_of result ≡ second_of result }
     {
         let side = Side::new();
         Stage {
-            first: side,
-            second: side,
+            one: side,
+            other: side,
+            swapped: false,
             row: Row::new(),
         }
     }
 
+    // The side that lines and calls work on.
+    pub fn first(&self) -> &Side
+        ensures { result.now ≡ first_of self.now }
+    {
+        if self.swapped { &self.other } else { &self.one }
+    }
+
+    pub fn first_mut(&mut self) -> &mut Side
+        ensures* writes_back { sem 𝓛 (LendsFirst self.entry result) }
+        ensures value { result.now ≡ first_of self.old }
+    {
+        if self.swapped {
+            &mut self.other
+        } else {
+            &mut self.one
+        }
+    }
+
+    // The side that the first is compared with.
+    pub fn second(&self) -> &Side
+        ensures { result.now ≡ second_of self.now }
+    {
+        if self.swapped { &self.one } else { &self.other }
+    }
+
     // What a call on the first side is lent.
-    pub fn lent(&mut self) -> Lent<'_> {
-        let Stage { first, row, .. } = self;
+    pub fn lent(&mut self) -> Lent<'_>
+        ensures file { result.file ≡ (first_of self.old).file }
+        ensures end { result.end ≡ (first_of self.old).end }
+        ensures text { result.text.now ≡ take (first_of self.old).sizes.text (first_of self.old).book.text }
+        ensures lines { result.lines.now ≡ take (first_of self.old).sizes.lines (first_of self.old).book.lines }
+        ensures pages { result.pages.now ≡ take (first_of self.old).sizes.pages (first_of self.old).book.pages }
+        ensures row { result.row.now ≡ take self.old.row.count self.old.row.words }
+    {
+        let Stage {
+            one,
+            other,
+            swapped,
+            row,
+        } = self;
+        let first = if *swapped { other } else { one };
         first.lent(row.answers())
     }
 
     // Exchanges the two sides: record, lent sizes, memory and logical end. The row stays.
     pub fn exchange(&mut self)
-        ensures first { self.new.first ≡ self.old.second }
-        ensures second { self.new.second ≡ self.old.first }
+        ensures first { first_of self.new ≡ second_of self.old }
+        ensures second { second_of self.new ≡ first_of self.old }
         ensures row { self.new.row ≡ self.old.row }
+        ensures swapped { self.new.swapped ≡ not self.old.swapped }
     {
-        mem::swap(&mut self.first, &mut self.second);
+        self.swapped = !self.swapped;
     }
 }
 
@@ -421,7 +486,7 @@ impl Stage {
     pub fn set(&mut self, setting: Setting) -> Result<(), BadLine>
         ensures { OnErr result (self.new ≡ self.old) }
     {
-        let side = &mut self.first;
+        let side = self.first_mut();
         match setting {
             Setting::Shape(shape) => side.file.shape = shape,
             Setting::Lend(sizes) => side.sizes = sizes,

@@ -2,10 +2,12 @@
 #![tactic(auto)]
 
 ghost use Rattle.std.specs.Prelude.{◌≡◌, ◌≤◌};
+ghost use Rattle.differences.specs.Compare.{compared, differ};
+ghost use Rattle.differs.specs.Books.{answer_of};
+ghost use Rattle.scenes.specs.Sides.{book_of, first_of, second_of};
 ghost use Rattle.script.specs.Calls.{output_of};
 
 use console::{BadLine, Hex, Pairs, Words};
-use differs::Books;
 use places::{BookMut, BookRef};
 use rules::{Position, Refusal, Reply};
 use scenes::{Lent, MOST, Setting, Side, Stage, TEXT};
@@ -175,9 +177,28 @@ fn write_whole(value: i32, width: i16, output: &mut [u8]) -> Result<usize, Refus
     Ok(whole::whole(value, width, output).count)
 }
 
-// The first side compared with the second, into a lent list: how many spans it found. Each side is taken over its own lent parts.
-fn compare(stage: &Stage, list: &mut [u8]) -> Result<usize, Refusal> {
-    Books::both(stage.first.checked(), stage.second.checked())?.list(list)
+// Where two sides differ, into a lent list: how many spans there are. Each side is taken over its own lent parts.
+pub fn list_differences(first: &Side, second: &Side, list: &mut [u8]) -> Result<usize, Refusal>
+    ensures { compared (book_of first.now) (book_of second.now) (answer_of result list.new) ≡ differ first.now.file (book_of first.now) second.now.file (book_of second.now) list.old }
+{
+    let here = first.shared();
+    let there = second.shared();
+    differs::list_differences(
+        first.file,
+        second.file,
+        first.end,
+        &here,
+        second.end,
+        &there,
+        list,
+    )
+}
+
+// The first side compared with the second.
+fn compare(stage: &Stage, list: &mut [u8]) -> Result<usize, Refusal>
+    ensures { compared (book_of (first_of stage.now)) (book_of (second_of stage.now)) (answer_of result list.new) ≡ differ (first_of stage.now).file (book_of (first_of stage.now)) (second_of stage.now).file (book_of (second_of stage.now)) list.old }
+{
+    list_differences(stage.first(), stage.second(), list)
 }
 
 // The reply of a call that leaves the record of a side.
@@ -187,13 +208,15 @@ fn quiet_reply(side: &Side, counted: Result<usize, Refusal>) -> Reply {
 
 // Leaves the record and the logical end as a call did, and no answers. The book is where it was, and the second side stays.
 fn leave(stage: &mut Stage, reply: Reply)
-    ensures file { stage.new.first.file ≡ reply.file }
-    ensures end { stage.new.first.end ≡ reply.end }
-    ensures book { stage.new.first.book ≡ stage.old.first.book }
-    ensures second { stage.new.second ≡ stage.old.second }
+    ensures file { (first_of stage.new).file ≡ reply.file }
+    ensures end { (first_of stage.new).end ≡ reply.end }
+    ensures book { (first_of stage.new).book ≡ (first_of stage.old).book }
+    ensures second { second_of stage.new ≡ second_of stage.old }
+    ensures swapped { stage.new.swapped ≡ stage.old.swapped }
 {
-    stage.first.file = reply.file;
-    stage.first.end = reply.end;
+    let side = stage.first_mut();
+    side.file = reply.file;
+    side.end = reply.end;
     stage.row.count = 0;
 }
 
@@ -221,9 +244,9 @@ impl<'a> Call<'a> {
             Call::Put(call) => call.make(stage.lent(), bytes),
             Call::Get(call) => call.make(stage.lent(), bytes, output),
             Call::Whole { value, width, .. } => {
-                quiet_reply(&stage.first, write_whole(value, width, output))
+                quiet_reply(stage.first(), write_whole(value, width, output))
             }
-            Call::Differ { .. } => quiet_reply(&stage.first, compare(stage, output)),
+            Call::Differ { .. } => quiet_reply(stage.first(), compare(stage, output)),
         };
         leave(stage, reply);
         reply
@@ -368,9 +391,9 @@ impl Player {
         stage.row.count = 0;
         let View { page, line, marker } = view;
         let marker = marker.store(bytes);
-        let side = &stage.first;
+        let side = stage.first();
         let count = side.view(page, line, b"").map(|part| part.len());
-        let part = side.view(page, line, marker).unwrap_or(b"");
+        let part = side.line_view(page, line, marker);
         (quiet_reply(side, count), part)
     }
 
@@ -379,7 +402,7 @@ impl Player {
         let mut words = Words::new(line);
         let name = str::from_utf8(words.word()?).map_err(|_| BadLine)?;
         match Command::read(name, &mut words)? {
-            Command::Dump => Ok(Told::Dump(&self.stage.first)),
+            Command::Dump => Ok(Told::Dump(self.stage.first())),
             Command::Set(setting) => {
                 self.stage.set(setting)?;
                 Ok(Told::Nothing)

@@ -2,18 +2,23 @@
 // `G` newpage.
 #![tactic(auto)]
 
+use arrayvec::ArrayString;
 use feed::{Line, Lines};
 use places::BookMut;
 use rules::{Refusal, Reply};
 use scenes::{Lent, Side};
 use shows::Place;
+use std::fmt::Write as _;
 use std::io;
-use std::io::{Read, Write};
+use std::io::{ErrorKind, Read, Write};
 
 // Much more than a put of a text has room for; and more than the whole book takes when it is shown.
 const LINE: usize = 4096;
 
 const OUTPUT: usize = 4096;
+
+// A refusal's line takes 12 bytes at most; no more are set to zero for each.
+const REFUSED: usize = 12;
 
 // One line of the input.
 fn play(line: &[u8], lent: Lent) -> Reply {
@@ -37,23 +42,19 @@ fn play(line: &[u8], lent: Lent) -> Reply {
 // Says that a call was refused, and its number.
 fn write_refused<W: Write>(writer: &mut W, refusal: Refusal) -> io::Result<()> {
     let number = refusal.number();
-    let mut output = io::Cursor::new([0; OUTPUT]);
-    writeln!(output, "refused {number}")?;
-    writer.write_all(console::written(&output))
+    let mut output: ArrayString<REFUSED> = ArrayString::new();
+    writeln!(output, "refused {number}").map_err(|_| ErrorKind::WriteZero)?;
+    writer.write_all(output.as_bytes())
 }
 
-// Shows a line, if it is shown: page, line, how many characters, and the characters or a marker.
+// Shows a line, if it is shown: page, line, how many characters, and the characters or the marker.
 fn write_line<W: Write>(writer: &mut W, side: &Side, page: usize, line: usize) -> io::Result<()> {
     let Ok(stored) = side.view(page, line, b"") else {
         return Ok(());
     };
     let count = stored.len();
     write!(writer, "{page} {line} {count} ")?;
-    writer.write_all(if stored.is_empty() {
-        b"(blank)"
-    } else {
-        stored
-    })?;
+    writer.write_all(side.line_view(page, line, b"(blank)"))?;
     writeln!(writer)
 }
 

@@ -9,19 +9,13 @@ use Rattle.rules.specs.declared.Position.{Position}
 use Rattle.rules.specs.declared.Shape.{Shape}
 use Rattle.rules.specs.declared.Rights.{Rights}
 use Rattle.rules.specs.declared.Run.{Run}
-use Rattle.places.specs.declared.BookMut.{BookMut}
-use Rattle.places.specs.Lent.{with_text}
 use Rattle.rules.specs.Book.{choose, place, before, State, with_end, moved_to, Lengths, lengths, line_index}
 use Rattle.laws.specs.Runs.{on_by, stored_by}
 use Rattle.rules.specs.Step.{goes_back, end_after, all_from, restored_from, lengths_after, blank_line, blank_lines}
 
--- a lent book with some lines of a page blanked
-abbrev pub blanked : Shape → ℕ → ℕ → ℕ → BookMut → BookMut
-blanked h n p l b = with_text b (blank_lines h (lengths b.lines.now b.pages.now) n p l b.text.now)
-
-pub lines_step : (h : Shape) (n m p l : ℕ) (b : BookMut) {b' : BookMut} → n ≡ m + 1 → b' ≡ with_text b (blank_line h (lengths b.lines.now b.pages.now) (place p l 1) b.text.now) → blanked h m p (l + 1) b' ≡ blanked h n p l b
+pub lines_step : (h : Shape) (f : Lengths) (n m p l : ℕ) (t : List ℕ) {t' : List ℕ} → n ≡ m + 1 → t' ≡ blank_line h f (place p l 1) t → blank_lines h f m p (l + 1) t' ≡ blank_lines h f n p l t
 unfolding blank_lines
-lines_step h n m p l b e k = rw (e, k, add-one l, add-one m)
+lines_step h f n m p l t e k = rw (e, k, add-one l, add-one m)
 
 -- the lengths after the position came to x
 module _ (h : Shape) (r : Rights) (end x : Position) (f : Lengths) where

@@ -1,22 +1,25 @@
 -- The ways out of the writing ends of a line and of a page, each over variables, so that a proof of code cites one with the facts that it
 -- has. Assumes nothing.
 use Prim.Native.Nat.{ℕ, ◌+◌, ◌-◌}
-use mathlib.Core.Path.{◌≡◌}
+use mathlib.Core.Path.{◌≡◌, ap, ◌∙◌}
 use mathlib.Core.List.{List}
 use mathlib.Core.Bool.{true, false}
 use lib.Dec.{eqb}
 use lib.ListN.{set}
 use Rattle.rules.specs.declared.Run.{Run}
-use Rattle.places.specs.declared.BookMut.{BookMut}
-use Rattle.places.specs.Lent.{state_over, with_text}
 use Rattle.rules.specs.Book.{choose, lengths, page_length, line_index, next_line, next_page, both_moved_to, state}
-use Rattle.rules.specs.Step.{done, ◌>>=◌, pure, change, test, branch, page_ended, blank_line, blank_lines, cut_line, cut_page, fill_line, fill_page, end_line, end_page}
+use Rattle.rules.specs.Step.{Out, done, and_then, change_run, ◌>>=◌, pure, change, test, branch, page_ended, blank_line, blank_lines, cut_line, cut_page, fill_line, fill_page, end_line, end_page}
 
 module _ (r x : Run) (t l p : List ℕ) where
   pub end_line_cut : (ls : List ℕ) (i : ℕ) → r.file.rights.compress ≡ true → i ≡ line_index r.file.shape r.file.position.page r.file.position.line
       → ls ≡ set l i (r.file.position.character - 1) → x ≡ both_moved_to r (next_line r.file.position) → done (tt {0}) (state x ls p) t ≡ end_line (state r l p) t
   unfolding end_line ◌>>=◌ test branch change cut_line
   end_line_cut ls i hc hi hl hx = rw (hx, hl, hi, hc)
+
+  pub end_line_fill : (t' : List ℕ) → r.file.rights.compress ≡ false → t' ≡ blank_line r.file.shape (lengths l p) r.file.position t
+      → x ≡ both_moved_to r (next_line r.file.position) → done (tt {0}) (state x l p) t' ≡ end_line (state r l p) t
+  unfolding end_line ◌>>=◌ test branch change fill_line
+  end_line_fill t' hc ht hx = rw (hx, ht, hc)
 
   pub end_page_full : r.file.rights.compress ≡ true → page_ended r p ≡ true → x ≡ both_moved_to r (next_page r.file.position) → done (tt {0}) (state x l p) t ≡ end_page (state r l p) t
   unfolding end_page ◌>>=◌ test branch change pure
@@ -28,14 +31,19 @@ module _ (r x : Run) (t l p : List ℕ) where
   unfolding end_page ◌>>=◌ test branch change cut_line cut_page
   end_page_cut ls ps i n hc hp hi hl hn hs hx = rw (hx, hs, hn, hl, hi, hc, hp)
 
-module _ (r x : Run) (b : BookMut) where
-  pub end_line_fill : {b' : BookMut} → r.file.rights.compress ≡ false → b' ≡ with_text b (blank_line r.file.shape (lengths b.lines.now b.pages.now) r.file.position b.text.now)
-      → x ≡ both_moved_to r (next_line r.file.position) → done (tt {0}) (state_over x b') b'.text.now ≡ end_line (state_over r b) b.text.now
-  unfolding end_line ◌>>=◌ test branch change fill_line
-  end_line_fill hc hb hx = rw (hx, hb, hc)
+  -- the position goes on after the page is filled
+  filled : (o : Out Unit) → r.file.rights.compress ≡ false → o ≡ fill_page (state r l p) t → and_then (λ u. change_run (λ r'. both_moved_to r' (next_page r'.file.position))) o ≡ end_page (state r l p) t
+  unfolding end_page ◌>>=◌ test branch
+  filled o hc ho = rw (ho, hc)
 
-  pub end_page_fill : {b₁ b' : BookMut} (size rest : ℕ) → r.file.rights.compress ≡ false → b₁ ≡ with_text b (blank_line r.file.shape (lengths b.lines.now b.pages.now) r.file.position b.text.now)
-      → size ≡ page_length b₁.pages.now r.file.position.page → rest ≡ size - r.file.position.line → b' ≡ with_text b₁ (blank_lines r.file.shape (lengths b₁.lines.now b₁.pages.now) rest r.file.position.page (r.file.position.line + 1) b₁.text.now)
-      → x ≡ both_moved_to r (next_page r.file.position) → done (tt {0}) (state_over x b') b'.text.now ≡ end_page (state_over r b) b.text.now
-  unfolding end_page ◌>>=◌ test branch change fill_page
-  end_page_fill size rest hc h₁ hs hr hb hx = rw (hx, hb, hr, hs, h₁, hc)
+  pub end_page_fill : (t' l' p' : List ℕ) → r.file.rights.compress ≡ false → done (tt {0}) (state r l' p') t' ≡ fill_page (state r l p) t
+      → x ≡ both_moved_to r (next_page r.file.position) → done (tt {0}) (state x l' p') t' ≡ end_page (state r l p) t
+  unfolding change
+  end_page_fill t' l' p' hc hf hx = ap (λ (y : Run). done (tt {0}) (state y l' p') t') hx ∙ filled (done (tt {0}) (state r l' p') t') hc hf
+
+module _ (r : Run) (t l p : List ℕ) where
+  pub page_blanked : (t₁ t' : List ℕ) (size rest : ℕ) → t₁ ≡ blank_line r.file.shape (lengths l p) r.file.position t
+      → size ≡ page_length p r.file.position.page → rest ≡ size - r.file.position.line → t' ≡ blank_lines r.file.shape (lengths l p) rest r.file.position.page (r.file.position.line + 1) t₁
+      → done (tt {0}) (state r l p) t' ≡ fill_page (state r l p) t
+  unfolding fill_page
+  page_blanked t₁ t' size rest h₁ hs hr ht = rw (ht, hr, hs, h₁)

@@ -3,7 +3,7 @@ use Prim.Native.Nat.{ℕ, zero, suc, ◌+◌, ◌-◌, ◌≤◌, ◌<◌, min}
 use native.Mathlib.Omega.{arith}
 use mathlib.Core.Path.{◌≡◌, refl, sym, ap, ◌∙◌}
 use mathlib.Core.List.{List, [], ◌∷◌}
-use lib.ListN.{length, set, take, drop, replicate, length-set, length-replicate, length-drop}
+use lib.ListN.{length, get_or, set, take, drop, replicate, length-set, length-replicate, length-drop}
 use Rattle.std.proofs.lemmas.List.{length-take}
 use lib.Seq.{sets, sets-eq}
 use Rattle.std.proofs.lemmas.Grind.{common_steps}
@@ -42,3 +42,13 @@ pub fill_blanks : (n i : ℕ) (l : List ℕ) → blanks n i l ≡ sets l i (repl
 unfolding blanks
 fill_blanks zero i l = refl
 fill_blanks (suc n) i l = fill_blanks n (suc i) (set l i 32)
+
+-- the next one of some that are stored
+pub set_next : (vs l : List ℕ) (at i j p : ℕ) → i < length vs → j ≡ suc i → p ≡ at + i → set (sets l at (take i vs)) p (get_or vs i 0) ≡ sets l at (take j vs)
+set_next [] l at i j p h is-j is-p = absurd (omega arith)
+set_next (v ∷ vs) l at zero j p h is-j is-p = let e : p ≡ at = omega arith in rw (is-j, e)
+set_next (v ∷ vs) l at (suc i) j p h is-j is-p = set_next vs (set l at v) (suc at) i (suc i) p (omega arith) refl (omega arith) ∙ ap (λ (k : ℕ). sets l at (take k (v ∷ vs))) (sym is-j)
+
+-- as many as there are places
+pub sets_over : (xs ys : List ℕ) → length xs ≡ length ys → sets xs 0 ys ≡ ys
+sets_over xs ys e = grind (arith, common_steps, sets-eq)

@@ -2,10 +2,11 @@
 // of a page.
 #![tactic(auto)]
 
-ghost use Rattle.std.specs.Prelude.{◌≡◌, ◌+◌, ◌≤◌, ◌<◌, ◌^◌, set};
+ghost use Rattle.std.specs.Prelude.{◌≡◌, ◌+◌, ◌≤◌, ◌<◌, ◌^◌, length, set};
 ghost use Rattle.rules.specs.Book.{place, lengths, character_index, state};
-ghost use Rattle.places.specs.Lent.{state_over, SameMemory, with_text};
-ghost use Rattle.rules.specs.Step.{done, goes_back, end_after, all_from, lengths_after, blanks, blank_line, blank_lines, end_line, end_page};
+ghost use Rattle.places.specs.Lent.{state_over, SameMemory};
+ghost use Rattle.rules.specs.Step.{done, goes_back, end_after, all_from, lengths_after, blanks, blank_line, blank_lines, fill_page, end_line, end_page};
+ghost use Rattle.std.proofs.lemmas.List.Edits.{sets};
 ghost use Rattle.laws.specs.Runs.{stored_by};
 ghost use Rattle.places.specs.Small.{Small};
 
@@ -18,6 +19,16 @@ pub fn store_byte(bytes: &mut [u8], i: usize, b: u8)
 {
     if i < bytes.len() {
         bytes[i] = b;
+    }
+}
+
+// Stores a run of bytes from an index on. It is no `copy_from_slice`: by that the library for C would need one more function from outside.
+pub fn store_run(text: &mut [u8], at: usize, bytes: &[u8])
+    requires { at + length bytes.now ≤ length text.old }
+    ensures { text.new ≡ sets text.old at bytes.now }
+{
+    for (i, byte) in bytes.iter().enumerate() {
+        text[at + i] = *byte;
     }
 }
 
@@ -40,26 +51,42 @@ pub fn put_length(lengths: &mut [u8], i: usize, n: usize)
     store_byte(lengths, i, n as u8);
 }
 
-// Blanks a line from a character on, to its own length.
+// Blanks a line from a character on, to its own length. The lengths are only read, so they need not be lent to be changed.
 #[tactic(auto, unfolding(rules::specs::Step::blank_line))]
-pub fn blank_line(shape: Shape, book: &mut BookMut, page: usize, line: usize, character: usize)
+pub fn blank_line(
+    shape: Shape,
+    text: &mut [u8],
+    lines: &[u8],
+    pages: &[u8],
+    page: usize,
+    line: usize,
+    character: usize,
+)
     requires small { Small shape page line }
     requires le_character { (1 ≤ character) × (character ≤ 256) }
-    ensures { book.new ≡ with_text book.old (blank_line shape (lengths book.old.lines.now book.old.pages.now) (place page line character) book.old.text.now) }
+    ensures { text.new ≡ blank_line shape (lengths lines.now pages.now) (place page line character) text.old }
 {
-    let size = book.line_length(shape, page, line);
+    let size = places::line_length(shape, lines, pages, page, line);
     let from = places::character_index(shape, page, line, character);
-    blank(book.text, from, (size + 1).saturating_sub(character));
+    blank(text, from, (size + 1).saturating_sub(character));
 }
 
 // Blanks some lines of a page.
-pub fn blank_lines(shape: Shape, book: &mut BookMut, count: usize, page: usize, line: usize)
+pub fn blank_lines(
+    shape: Shape,
+    text: &mut [u8],
+    lines: &[u8],
+    pages: &[u8],
+    count: usize,
+    page: usize,
+    line: usize,
+)
     requires small { Small shape page 1 }
     requires le_line { (1 ≤ line) × (line + count ≤ 257) }
-    ensures { book.new ≡ with_text book.old (blank_lines shape (lengths book.old.lines.now book.old.pages.now) count page line book.old.text.now) }
+    ensures { text.new ≡ blank_lines shape (lengths lines.now pages.now) count page line text.old }
 {
     for next in line..line + count {
-        blank_line(shape, book, page, next, 1);
+        blank_line(shape, text, lines, pages, page, next, 1);
     }
 }
 
@@ -155,12 +182,11 @@ pub fn store_character(run: Run, book: &mut BookMut, b: u8) -> Run
     stored(run, 1, book.lines, book.pages)
 }
 
-// The writing end of a line, with the position at the logical end.
-pub fn end_line(run: Run, book: &mut BookMut) -> Run
+// The writing end of a line, with the position at the logical end. The lengths of the pages are only read.
+pub fn end_line(run: Run, text: &mut [u8], lines: &mut [u8], pages: &[u8]) -> Run
     requires small { Small run.file.shape run.file.position.page run.file.position.line }
     requires le_character { (1 ≤ run.file.position.character) × (run.file.position.character ≤ 256) }
-    ensures memory { SameMemory book.old book.new }
-    ensures ended { done (tt {0}) (state_over result book.new) book.new.text.now ≡ end_line (state_over run book.old) book.old.text.now }
+    ensures { done (tt {0}) (state result lines.new pages.now) text.new ≡ end_line (state run lines.old pages.now) text.old }
 {
     let shape = run.file.shape;
     let page = run.file.position.page;
@@ -168,11 +194,30 @@ pub fn end_line(run: Run, book: &mut BookMut) -> Run
     let character = run.file.position.character;
     if run.file.rights.compress {
         let i = places::line_index(shape, page, line);
-        put_length(book.lines, i, character - 1);
+        put_length(lines, i, character - 1);
         return running::both_moved(run, page, line + 1, 1);
     }
-    blank_line(shape, book, page, line, character);
+    blank_line(shape, text, lines, pages, page, line, character);
     running::both_moved(run, page, line + 1, 1)
+}
+
+// The same of a book that is lent as one. The slices are handed on one by one, since no loan of a part to be read goes beside one of
+// another part to be changed.
+pub fn end_line_in(run: Run, book: &mut BookMut) -> Run
+    requires small { Small run.file.shape run.file.position.page run.file.position.line }
+    requires le_character { (1 ≤ run.file.position.character) × (run.file.position.character ≤ 256) }
+    ensures memory { SameMemory book.old book.new }
+    ensures ended { done (tt {0}) (state_over result book.new) book.new.text.now ≡ end_line (state_over run book.old) book.old.text.now }
+{
+    end_lent_line(run, book.text, book.lines, book.pages)
+}
+
+fn end_lent_line(run: Run, text: &mut [u8], lines: &mut [u8], pages: &mut [u8]) -> Run
+    requires small { Small run.file.shape run.file.position.page run.file.position.line }
+    requires le_character { (1 ≤ run.file.position.character) × (run.file.position.character ≤ 256) }
+    ensures { done (tt {0}) (state result lines.new pages.new) text.new ≡ end_line (state run lines.old pages.old) text.old }
+{
+    end_line(run, text, lines, pages)
 }
 
 // The writing end of a page, with the position at the logical end.
@@ -199,9 +244,30 @@ pub fn end_page(run: Run, book: &mut BookMut) -> Run
         put_length(book.pages, page - 1, line);
         return running::both_moved(run, page + 1, 1, 1);
     }
-    blank_line(shape, book, page, line, character);
-    let size = book.page_length(page);
-    let rest = size.saturating_sub(line);
-    blank_lines(shape, book, rest, page, line + 1);
+    blank_page(run, book.text, book.lines, book.pages);
     running::both_moved(run, page + 1, 1, 1)
+}
+
+// Blanks the rest of the position's line, and the later lines of its page. The lengths are lent as those of the book, and stay. It is
+// seldom called, and its loop has the registers for itself where it is no part of its caller.
+#[inline(never)]
+fn blank_page(run: Run, text: &mut [u8], lines: &mut [u8], pages: &mut [u8])
+    requires small { Small run.file.shape run.file.position.page run.file.position.line }
+    requires le_character { (1 ≤ run.file.position.character) × (run.file.position.character ≤ 256) }
+    ensures { done (tt {0}) (state run lines.new pages.new) text.new ≡ fill_page (state run lines.old pages.old) text.old }
+{
+    let shape = run.file.shape;
+    let page = run.file.position.page;
+    let line = run.file.position.line;
+    blank_line(
+        shape,
+        text,
+        lines,
+        pages,
+        page,
+        line,
+        run.file.position.character,
+    );
+    let rest = places::page_length(pages, page).saturating_sub(line);
+    blank_lines(shape, text, lines, pages, rest, page, line + 1);
 }

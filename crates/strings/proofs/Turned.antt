@@ -56,22 +56,22 @@ module _ (row : List ℕ) (s : State) (t : List ℕ) (rd : Ready row (put_charac
     pub put_ends : {x : Ending} {u : State} {t' : List ℕ} → execute row (put_character true b) s t ≡ ends x u t' → put_characters row true rest s t ≡ ends x u t'
     put_ends f = first_of (left_ends row (b ∷ others) true 0 s t rd (omega arith) refl f)
 
-    pub put_one : {u : State} {t' : List ℕ} → execute row (put_character true b) s t ≡ done tt u t' → PutOn row rest s t others u t'
-    put_one f = record { same = first_of (left_one row (b ∷ others) true 0 s t rd (omega arith) refl f); ready = one_left_ready row (b ∷ others) true 0 s t rd (omega arith) refl f; less = one_less row b s t rd f }
+    pub put_one : {u : State} {t' : List ℕ} → execute row (put_character true b) s t ≡ done tt u t' → PutOn row rest s t 1 others u t'
+    put_one f = record { same = first_of (left_one row (b ∷ others) true 0 s t rd (omega arith) refl f); after = ap (drop 1) (sym e); within = let h = ap length e in omega (arith, h); ready = one_left_ready row (b ∷ others) true 0 s t rd (omega arith) refl f; less = one_less row b s t rd f }
 
   -- n of them at once
   pub put_more : {size n : ℕ} {rest some left : List ℕ} → Storable s size rest n → (n ≡ 0 → ⊥) → some ≡ take n rest → left ≡ drop n rest
-      → {u : State} {t' : List ℕ} → u ≡ stored_by (length some) s → t' ≡ sets t (character_index (shape_of s) (here s)) some → PutOn row rest s t left u t'
+      → {u : State} {t' : List ℕ} → u ≡ stored_by (length some) s → t' ≡ sets t (character_index (shape_of s) (here s)) some → PutOn row rest s t n left u t'
   put_more {n = n} {rest} {some} r z es el {u} {t'} hy ht =
       let m : 0 < n = some_of n z in
       let k : length some ≡ n = ap length es ∙ length-take n rest ∙ omega (arith, r.left) in
       let hu : u ≡ stored_by n s = hy ∙ ap (λ (j : ℕ). stored_by j s) k in
       let x = left_run row rest true 0 s t rd m (record { there = omega (arith, r.left); good = good_facts false s (r.room.good m); room = r.room.line; plain = r.plain }) hu (ht ∙ ap (sets t (character_index (shape_of s) (here s))) es) in
       let z : 0 + n ≡ n = omega arith in
-      record { same = x.0 ∙ ap (λ (j : ℕ). put_characters row true (drop j rest) u t') z ∙ ap (λ (bs : List ℕ). put_characters row true bs u t') (sym el); ready = x.1; less = stored_less row (put_character true 0) s m x.1 hu }
+      record { same = x.0 ∙ ap (λ (j : ℕ). put_characters row true (drop j rest) u t') z ∙ ap (λ (bs : List ℕ). put_characters row true bs u t') (sym el); after = el; within = r.left; ready = x.1; less = stored_less row (put_character true 0) s m x.1 hu }
 
   -- a turn to the next line
-  pub put_turn : {rest others : List ℕ} {b : ℕ} → rest ≡ b ∷ others → turns_here row false s ≡ true → {v : Run} {t' l' p' : List ℕ} → done tt (state v l' p') t' ≡ end_line (on_run s (moved_to (signalled_by row s.run) (end_of s))) t → PutOn row rest s t rest (state v l' p') t'
+  pub put_turn : {rest others : List ℕ} {b : ℕ} → rest ≡ b ∷ others → turns_here row false s ≡ true → {v : Run} {t' l' p' : List ℕ} → done tt (state v l' p') t' ≡ end_line (on_run s (moved_to (signalled_by row s.run) (end_of s))) t → PutOn row rest s t 0 rest (state v l' p') t'
   put_turn {rest} q' q {v} {t'} {l'} {p'} e =
       let f = turns_facts row false s q in
       let u : State = state v l' p' in
@@ -83,6 +83,8 @@ module _ (row : List ℕ) (s : State) (t : List ℕ) (rd : Ready row (put_charac
       let n = ap length q' in
       record {
         same = puts_again row true rest s u t t' (omega (arith, n)) (λ b. put_again row true b s u t t' (any_character b rd) (any_character b ru) g);
+        after = refl;
+        within = omega arith;
         ready = ru;
         less = (site_later row (put_character true 0) s rd (put_character true 0) u d.valid d.took d.claim).1;
       }

@@ -26,9 +26,11 @@ pub record Takable (terminators : List ℕ) (s : State) (t : List ℕ) (limit n 
   pub most : n ≤ limit
   pub plain : every (ordinary terminators) (take n (drop (character_index (shape_of s) (here s)) t)) ≡ true
 
--- what was left of a string is put but for what is left now; what goes on is nearer the end
-pub record PutOn (row rest : List ℕ) (s : State) (t left : List ℕ) (u : State) (t' : List ℕ) : Type 0 where
+-- what was left of a string is put but for what is left now, which comes after the first n of it; what goes on is nearer the end
+pub record PutOn (row rest : List ℕ) (s : State) (t : List ℕ) (n : ℕ) (left : List ℕ) (u : State) (t' : List ℕ) : Type 0 where
   pub same : put_characters row true rest s t ≡ put_characters row true left u t'
+  pub after : left ≡ drop n rest
+  pub within : n ≤ length rest
   pub ready : Ready row (put_character true 0) u
   pub less : measure row (put_character true 0) u < measure row (put_character true 0) s
 

@@ -16,7 +16,7 @@ ghost use Rattle.laws.specs.Runs.{on_by, stored_by};
 ghost use Rattle.stores.proofs.Smalls.{SmallRun};
 ghost use Rattle.strings.specs.Parts.{Room, Storable, Takable};
 
-use places::BookMut;
+use places::{BookMut, BookRef};
 use rules::{EndedCall, Ending, Outcome, Run, Stop, Taken};
 
 // What a string delivered: the running call after it, how it ended, and how many characters it got.
@@ -28,9 +28,9 @@ pub struct Delivered {
 }
 
 // How many characters there are from the position on, if its line is good: on the line, and, reading, before the logical end.
-pub fn room_here(run: Run, reading: bool, book: &BookMut) -> usize
-    requires { Valid (state_over run book.now) }
-    ensures { Room reading (state_over run book.now) (length book.now.text.now) result }
+pub fn room_here(run: Run, reading: bool, book: &BookRef) -> usize
+    requires { Valid (state run book.now.lines.now book.now.pages.now) }
+    ensures { Room reading (state run book.now.lines.now book.now.pages.now) (length book.now.text.now) result }
 {
     if !book.line_good(run, reading) {
         return 0;
@@ -55,9 +55,9 @@ pub fn room_here(run: Run, reading: bool, book: &BookMut) -> usize
 }
 
 // How many characters of a string can be stored at once: they are printable, and fit the line from the position on.
-pub fn run_length(run: Run, rest: &[u8], book: &BookMut) -> usize
-    requires { Valid (state_over run book.now) }
-    ensures { Storable (state_over run book.now) (length book.now.text.now) rest.now result }
+pub fn run_length(run: Run, rest: &[u8], book: &BookRef) -> usize
+    requires { Valid (state run book.now.lines.now book.now.pages.now) }
+    ensures { Storable (state run book.now.lines.now book.now.pages.now) (length book.now.text.now) rest.now result }
 {
     let limit = room_here(run, false, book).min(rest.len());
     characters::leading_printable(&rest[..limit])
@@ -77,7 +77,7 @@ pub fn store_some(run: Run, some: &[u8], book: &mut BookMut) -> Run
         position.line,
         position.character,
     );
-    book.text[at..at + some.len()].copy_from_slice(some);
+    stores::store_run(book.text, at, some);
     stores::stored(run, some.len(), book.lines, book.pages)
 }
 
@@ -92,13 +92,13 @@ pub fn put_string(run: Run, bytes: &[u8], book: &mut BookMut, row: &[u32]) -> Ou
     let mut here = run;
     let mut rest = bytes;
     while let Some((first, others)) = rest.split_first() {
-        let n = run_length(here, rest, book);
+        let n = run_length(here, rest, &book.shared());
         if n != 0 {
             let (some, left) = rest.split_at(n);
             here = store_some(here, some, book);
             rest = left;
-        } else if turns::turns(here, false, book, row) {
-            here = turns::turned_writing(here, book, row);
+        } else if turns::turns(here, false, &book.shared(), row) {
+            here = turns::turned_writing_in(here, book, row);
         } else {
             let from = here;
             here = lines::try_character(from, true, *first, book, row)?;
@@ -146,9 +146,9 @@ pub fn string_character(
 }
 
 // How many characters can be got at once, of at most a limit: ordinary ones from the position on, before the logical end.
-pub fn ready_length(run: Run, terminators: &[u8], limit: usize, book: &BookMut) -> usize
-    requires { Valid (state_over run book.now) }
-    ensures { Takable terminators.now (state_over run book.now) book.now.text.now limit result }
+pub fn ready_length(run: Run, terminators: &[u8], limit: usize, book: &BookRef) -> usize
+    requires { Valid (state run book.now.lines.now book.now.pages.now) }
+    ensures { Takable terminators.now (state run book.now.lines.now book.now.pages.now) book.now.text.now limit result }
 {
     let most = room_here(run, true, book).min(limit);
     let position = run.file.position;
@@ -165,10 +165,10 @@ pub fn ready_length(run: Run, terminators: &[u8], limit: usize, book: &BookMut) 
 }
 
 // Takes as many characters from the position on as there is room for, and passes them.
-pub fn take_some(run: Run, book: &BookMut, room: &mut [u8]) -> Run
+pub fn take_some(run: Run, text: &[u8], room: &mut [u8]) -> Run
     requires small_run { SmallRun run }
-    requires room_bound { (run.file.position.character + length room.old ≤ 256) × (character_index run.file.shape run.file.position + length room.old ≤ length book.now.text.now) }
-    ensures { (result ≡ moved_to run (on_by (length room.old) run.file.position)) × (room.new ≡ take (length room.old) (drop (character_index run.file.shape run.file.position) book.now.text.now)) }
+    requires room_bound { (run.file.position.character + length room.old ≤ 256) × (character_index run.file.shape run.file.position + length room.old ≤ length text.now) }
+    ensures { (result ≡ moved_to run (on_by (length room.old) run.file.position)) × (room.new ≡ take (length room.old) (drop (character_index run.file.shape run.file.position) text.now)) }
 {
     let position = run.file.position;
     let at = places::character_index(
@@ -178,7 +178,7 @@ pub fn take_some(run: Run, book: &BookMut, room: &mut [u8]) -> Run
         position.character,
     );
     let count = room.len();
-    room.copy_from_slice(&book.text[at..at + count]);
+    stores::store_run(room, 0, &text[at..at + count]);
     running::moved(
         run,
         position.page,
@@ -204,11 +204,11 @@ pub fn get_string(
     let mut here = run;
     let mut i = 0;
     while i < output.len() {
-        let n = ready_length(here, terminators, output.len() - i, book);
+        let n = ready_length(here, terminators, output.len() - i, &book.shared());
         if n != 0 {
-            here = take_some(here, book, &mut output[i..i + n]);
+            here = take_some(here, book.shared().text, &mut output[i..i + n]);
             i += n;
-        } else if turns::turns(here, true, book, row) {
+        } else if turns::turns(here, true, &book.shared(), row) {
             here = turns::turned_reading(here, row);
         } else {
             let from = here;

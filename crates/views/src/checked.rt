@@ -18,7 +18,8 @@ impl<'a> CheckedBook<'a> {
     ghost use Rattle.views.specs.Checked.{Checks, state_of};
     ghost use Rattle.views.specs.Spans.{line_or_none};
 
-    // The book, or the first test before work that it fails: 1, then 3.
+    // The book, or the first test before work that it fails: 1, then 3. It is part of each caller, so that no record is copied.
+    #[inline(always)]
     pub fn check(run: Run, book: BookRef<'a>) -> Result<CheckedBook<'a>, Refusal>
         ensures { Checks run book.entry.text.now book.entry.lines.now book.entry.pages.now result }
     {
@@ -26,7 +27,8 @@ impl<'a> CheckedBook<'a> {
         Ok(CheckedBook { run, book })
     }
 
-    // Where a line's shown characters lie in the text, if it is shown.
+    // Where a line's shown characters lie in the text, if it is shown. It is part of each caller too.
+    #[inline(always)]
     #[tactic(auto, using(crate::proofs::Shown::shown_in_checked))]
     pub fn line_span(&self, page: usize, line: usize) -> Option<Span>
         ensures { result ≡ line_or_none page line (state_of self.now) }

@@ -55,7 +55,8 @@ pub struct Span {
     pub count: usize,
 }
 
-// The tests of a view, 1, 3 and 6, and the line's span.
+// The tests of a view, 1, 3 and 6, and the line's span. It is part of each caller, so that no record is copied.
+#[inline(always)]
 pub fn span_of(run: Run, page: usize, line: usize, book: &BookRef) -> Result<Span, Refusal>
     ensures { result ≡ span_of page line (length book.now.text.now) (state run book.now.lines.now book.now.pages.now) }
 {
@@ -99,7 +100,9 @@ impl ViewPlace {
     }
 }
 
-// The line view in numbers: a shown line in the text; the whole marker where it is empty, and no part of it where it is refused.
+// The line view in numbers: a shown line in the text; the whole marker where it is empty, and no part of it where it is refused. It is
+// part of each caller too.
+#[inline(always)]
 pub fn view_place(
     file: File,
     end: Position,

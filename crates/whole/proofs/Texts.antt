@@ -4,16 +4,21 @@ use native.Mathlib.Omega.{arith}
 use native.Mathlib.Decide.{dec_lt}
 use mathlib.Core.Path.{◌≡◌, refl, sym, ap, subst, ◌∙◌}
 use mathlib.Core.Bool.{Bool, true, false}
-use mathlib.Core.List.{List, ◌++◌}
+use mathlib.Core.List.{List, ◌++◌, append_assoc}
 use lib.Dec.{leb}
 use lib.ListN.{length, take, drop, replicate, length-append, length-replicate}
-use Rattle.std.proofs.lemmas.List.{length-take}
+use lib.Seq.{sets}
+use Rattle.std.proofs.lemmas.List.{length-take, replicate-append-replicate}
 use lib.IntN.{ℤ, pos, negsuc, nat_abs}
 use lib.Signed.{lt_z}
 use borrow.Author.Tests.{le-leb, lt-leb, lt-ltb, le-ltb}
+use Rattle.rules.specs.Step.{blanks}
 use Rattle.rules.specs.Whole.{digits, signed, padded, whole_text, lowest, refused_whole, whole}
 use Rattle.whole.specs.Marked.{negative, signs, marked}
 use Rattle.whole.specs.Refused.{Writes}
+use Rattle.stores.proofs.Fills.{fill_blanks}
+use Rattle.whole.proofs.Joined.{sets_next}
+use Rattle.whole.proofs.Digits.{at_most_ten}
 
 -- an integer with its sign is its sign and its absolute value
 pub signed_is : (plus : Bool) (v : ℤ) → marked plus (negative v) (nat_abs v) ≡ signed plus v
@@ -42,6 +47,28 @@ length-padded w t = elim (dec_lt w (length t)) [
   | yes h ↦ ap length (padded_not w t h) ∙ length-replicate w 42
   | no h ↦ ap length (padded_fits w t (omega arith)) ∙ length-append (replicate (w - length t) 32) t ∙ omega (arith, length-replicate {A = ℕ} (w - length t) 32)
 ]
+
+-- a sign and the digits fit 11 places, so what is left of these in a wider field is blank
+marked_short : (plus below : Bool) (n : ℕ) → length (marked plus below n) ≤ 11
+marked_short plus below n = omega (arith, length-append (signs plus below) (digits n), signs_short plus below, at_most_ten n)
+
+padded_more : (b k : ℕ) (t : List ℕ) → length t ≤ k → replicate b 32 ++ padded k t ≡ padded (b + k) t
+padded_more b k t h =
+    let e : b + (k - length t) ≡ b + k - length t = omega arith in
+    ap (λ (x : List ℕ). replicate b 32 ++ x) (padded_fits k t h) ∙ sym (append_assoc (replicate b 32) (replicate (k - length t) 32) t) ∙ ap (λ (x : List ℕ). x ++ t) (replicate-append-replicate {A = ℕ} b (k - length t) 32)
+    ∙ ap (λ (m : ℕ). replicate m 32 ++ t) e ∙ sym (padded_fits (b + k) t (omega arith))
+
+padded_wide : (b k : ℕ) (t : List ℕ) → (0 < b → length t ≤ k) → replicate b 32 ++ padded k t ≡ padded (b + k) t
+padded_wide zero k t h = let e : k ≡ 0 + k = omega arith in ap (λ (w : ℕ). padded w t) e
+padded_wide (suc b) k t h = padded_more (suc b) k t (h (omega arith))
+
+pub placed : (l : List ℕ) (at width : ℕ) (plus below : Bool) (n : ℕ) {b k : ℕ} {l' field : List ℕ} → b ≡ width - 11 → k ≡ width - b → l' ≡ blanks b at l → field ≡ padded k (marked plus below n)
+    → sets l' (at + b) field ≡ sets l at (padded width (marked plus below n))
+placed l at width plus below n {b} {k} {l'} {field} is-b is-k x y =
+    let w : b + k ≡ width = omega arith in
+    let j : at + b ≡ at + length (replicate {A = ℕ} b 32) = omega (arith, length-replicate {A = ℕ} b 32) in
+    (λ i. sets ((x ∙ fill_blanks b at l) i) (at + b) (y i)) ∙ sets_next (replicate b 32) (padded k (marked plus below n)) l at (at + b) j
+    ∙ ap (sets l at) (padded_wide b k (marked plus below n) (λ h. omega (arith, h, marked_short plus below n)) ∙ ap (λ (m : ℕ). padded m (marked plus below n)) w)
 
 -- what the code has counted: the sign's characters and the digits
 module _ (width : ℕ) (plus below : Bool) (n : ℕ) {s d : ℕ} (is-s : s ≡ length (signs plus below)) (is-d : d ≡ length (digits n)) where

@@ -1,7 +1,7 @@
 // whole(v, w): an integer as a text, written digit by digit into a lent slice.
 #![tactic(auto)]
 
-ghost use Rattle.std.specs.Prelude.{◌≡◌, ◌<◌, ◌^◌, length, nat_abs, pos, option_to_list, IfOk, IfErr};
+ghost use Rattle.std.specs.Prelude.{◌≡◌, ◌+◌, ◌≤◌, ◌<◌, ◌^◌, length, nat_abs, pos, option_to_list, IfOk, IfErr};
 ghost use Rattle.std.proofs.lemmas.List.Edits.{sets};
 ghost use Rattle.rules.specs.Step.{refusal_number};
 ghost use Rattle.rules.specs.Whole.{digits, padded, whole_text, whole};
@@ -44,7 +44,7 @@ pub fn sign_count(plus: bool, negative: bool) -> usize
 }
 
 // The digits of a number, in as many places.
-pub fn put_digits(places: &mut [u8], n: u32)
+pub fn fill_digits(places: &mut [u8], n: u32)
     requires { length places.old ≡ length (digits n) }
     ensures { places.new ≡ digits n }
 {
@@ -71,7 +71,7 @@ pub fn shown_sign(plus: bool, negative: bool) -> Option<u8>
 }
 
 // The sign, in one place if it is shown, and in none if not.
-pub fn put_sign(places: &mut [u8], plus: bool, negative: bool)
+pub fn fill_sign(places: &mut [u8], plus: bool, negative: bool)
     requires { length places.old ≡ length (signs plus negative) }
     ensures { places.new ≡ signs plus negative }
 {
@@ -81,7 +81,7 @@ pub fn put_sign(places: &mut [u8], plus: bool, negative: bool)
 }
 
 // The sign and the digits of a number over all of a field, with blanks on the left, or asterisks where they do not fit.
-pub fn put_padded(field: &mut [u8], plus: bool, negative: bool, n: u32)
+pub fn fill_padded(field: &mut [u8], plus: bool, negative: bool, n: u32)
     ensures { field.new ≡ padded (length field.old) (marked plus negative n) }
 {
     let signs = sign_count(plus, negative);
@@ -93,20 +93,71 @@ pub fn put_padded(field: &mut [u8], plus: bool, negative: bool, n: u32)
     let (blanks, text) = field.split_at_mut(field.len() - size);
     let (sign, digits) = text.split_at_mut(signs);
     blanks.fill(b' ');
-    put_sign(sign, plus, negative);
-    put_digits(digits, n);
+    fill_sign(sign, plus, negative);
+    fill_digits(digits, n);
 }
 
-// The text whole(v, 11) from an index on. What lies past the slice's end is left out, since no caller knows the slice's size.
+// A text from an index on. What lies past the slice's end is left out, since no caller knows the slice's size.
+fn store_text(output: &mut [u8], at: usize, text: &[u8])
+    requires { at + length text.now < 2 ^ 64 }
+    ensures { output.new ≡ sets output.old at text.now }
+{
+    for (i, byte) in text.iter().enumerate() {
+        stores::store_byte(output, at + i, *byte);
+    }
+}
+
+// The digits of a number, ending before an index. Gives where they start. What lies past the slice's end is left out.
+pub fn put_digits(output: &mut [u8], end: usize, n: u32) -> usize
+    requires { length (digits n) ≤ end }
+    ensures { (result + length (digits n) ≡ end) × (output.new ≡ sets output.old result (digits n)) }
+{
+    let count = digit_count(n);
+    let start = end - count;
+    let mut text = [b'0'; 10];
+    let places = &mut text[..count];
+    fill_digits(places, n);
+    store_text(output, start, places);
+    start
+}
+
+// The sign, if one is shown, ending before an index. Gives where it starts. Past the slice's end it is left out.
+pub fn put_sign(output: &mut [u8], end: usize, plus: bool, negative: bool) -> usize
+    requires { length (signs plus negative) ≤ end }
+    ensures { (result + length (signs plus negative) ≡ end) × (output.new ≡ sets output.old result (signs plus negative)) }
+{
+    match shown_sign(plus, negative) {
+        Some(sign) => {
+            stores::store_byte(output, end - 1, sign);
+            end - 1
+        }
+        None => end,
+    }
+}
+
+// Some width of characters from an index on: the sign and the digits with blanks on the left, or asterisks. What lies past the slice's
+// end is left out.
+pub fn put_padded(output: &mut [u8], at: usize, width: usize, plus: bool, negative: bool, n: u32)
+    requires { at + width < 2 ^ 32 }
+    ensures { output.new ≡ sets output.old at (padded width (marked plus negative n)) }
+{
+    // A sign and ten digits fit 11 places: left of these a wider field is blank.
+    let blanks = width.saturating_sub(11);
+    let mut text = [b' '; 11];
+    let field = &mut text[..width - blanks];
+    fill_padded(field, plus, negative, n);
+    stores::blank(output, at, blanks);
+    store_text(output, at + blanks, field);
+}
+
+// The text whole(v, 11) from an index on. What lies past the slice's end is left out.
 pub fn put_whole(output: &mut [u8], at: usize, v: i32)
     requires { (nat_abs v < 2147483648) × (at < 2 ^ 31) }
     ensures { output.new ≡ sets output.old at (whole_text v (pos 11)) }
 {
     let mut text = [b' '; 11];
-    put_padded(&mut text, true, v < 0, v.unsigned_abs());
-    for (i, byte) in text.iter().enumerate() {
-        stores::store_byte(output, at + i, *byte);
-    }
+    fill_padded(&mut text, true, v < 0, v.unsigned_abs());
+    store_text(output, at, &text);
 }
 
 // How many characters whole(v, w) has.
@@ -154,7 +205,7 @@ pub fn whole(v: i32, w: i32, output: &mut [u8]) -> Wrote
 {
     match width_for(v, w, output.len()) {
         Ok(width) => {
-            put_padded(&mut output[..width], 0 < w, v < 0, v.unsigned_abs());
+            fill_padded(&mut output[..width], 0 < w, v < 0, v.unsigned_abs());
             Wrote {
                 number: 0,
                 count: width,

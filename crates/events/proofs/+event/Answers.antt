@@ -91,11 +91,11 @@ newline-overflow_add-position t c = omega (arith, near_at (newline_done _ _ _ c.
 pub newline-returns-then-not-on_end_line-clause-outcome : goal.newline-returns-then-not-on_end_line-clause-outcome
 newline-returns-then-not-on_end_line-clause-outcome t c = newline_moves _ _ _ c.loop-at.book.text.now c.loop-at.invariant.0.from.ready (reached c.good_page.ensures.outcome c.in_ok-at.was) (sym c.on_end_line.ensures ∙ c.if-not-on_end_line.true) c.moved.ensures refl ∙ sym c.loop-at.invariant.0.same
 
-pub newline-end_line-requires : goal.newline-end_line-requires
-newline-end_line-requires t c = let x = end_small (state c.in_ok-at.at _ _) c.moved-last.ensures (newline_done _ _ _ c.loop-at.book.text.now c.loop-at.invariant.0.from.ready (reached c.good_page.ensures.outcome c.in_ok-at.was)).valid in record { small = x.0; le_character = x.1 }
+pub newline-end_line_in-requires : goal.newline-end_line_in-requires
+newline-end_line_in-requires t c = let x = end_small (state c.in_ok-at.at _ _) c.moved-last.ensures (newline_done _ _ _ c.loop-at.book.text.now c.loop-at.invariant.0.from.ready (reached c.good_page.ensures.outcome c.in_ok-at.was)).valid in record { small = x.0; le_character = x.1 }
 
 pub newline-returns-then-not-reading-clause-outcome : goal.newline-returns-then-not-reading-clause-outcome
-newline-returns-then-not-reading-clause-outcome t c = newline_closes _ _ _ c.loop-at.book.text.now c.loop-at.invariant.0.from.ready (reached c.good_page.ensures.outcome c.in_ok-at.was) (sym c.on_end_line.ensures ∙ c.if-not-on_end_line.false) c.moved-last.ensures c.if-not-reading.true c.end_line.ensures.ended refl ∙ sym c.loop-at.invariant.0.same
+newline-returns-then-not-reading-clause-outcome t c = newline_closes _ _ _ c.loop-at.book.text.now c.loop-at.invariant.0.from.ready (reached c.good_page.ensures.outcome c.in_ok-at.was) (sym c.on_end_line.ensures ∙ c.if-not-on_end_line.false) c.moved-last.ensures c.if-not-reading.true c.end_line_in.ensures.ended refl ∙ sym c.loop-at.invariant.0.same
 
 pub newline-loop-at-smaller : goal.newline-loop-at-smaller
 newline-loop-at-smaller t c = looped_less c.loop-at.invariant.0 (newline_from _ _ _ c.loop-at.book.text.now c.loop-at.invariant.0.from.ready (reached c.good_page.ensures.outcome c.in_ok-at.was)) (newline_on _ _ _ c.loop-at.book.text.now c.loop-at.invariant.0.from.ready (reached c.good_page.ensures.outcome c.in_ok-at.was) (sym c.on_end_line.ensures ∙ c.if-not-on_end_line.false) c.moved-last.ensures c.if-not-reading.false)

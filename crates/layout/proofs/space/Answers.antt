@@ -1,3 +1,8 @@
+use lib.ListN.{length}
+use mathlib.Core.Path.{◌≡◌}
+use Rattle.places.proofs.Shared.{back}
+use Rattle.rules.specs.Book.{state}
+use Rattle.begins.specs.Begin.{in_mood_by}
 use mathlib.Core.Path.{sym, ◌∙◌}
 use mathlib.Core.Bool.{false}
 use Rattle.rules.specs.Steps.{Action, space_step, execute}
@@ -5,10 +10,10 @@ use Rattle.layout.proofs.Moods.{mood_ready, mood_refused, mood_worked, space_is}
 use Rattle.layout.proofs.space.Goals as goal
 
 pub space-requires : goal.space-requires
-space-requires c = mood_ready c.args.row.now c.args.file c.args.end c.args.book.now.text.now c.args.book.now.lines.now c.args.book.now.pages.now c.start-start.ensures c.in_mood.ensures c.in-Ok.is (Action.good_line c.args.file.reading false)
+space-requires c = mood_ready c.args.row.now c.args.file c.args.end c.args.book.now.text.now c.args.book.now.lines.now c.args.book.now.pages.now c.start-start.ensures (back (λ t l p. c.in_mood.result ≡ in_mood_by c.args.row.now (length t) (state c.start-start.result l p)) c.shared.ensures c.in_mood.ensures) c.in-Ok.is (Action.good_line c.args.file.reading false)
 
 pub returns-in-Ok-clause-answer : goal.returns-in-Ok-clause-answer
-returns-in-Ok-clause-answer c = mood_worked c.args.row.now c.args.file c.args.end c.args.book.now.text.now c.args.book.now.lines.now c.args.book.now.pages.now c.start-start.ensures c.in_mood.ensures (space_step c.args.row.now (execute c.args.row.now)) c.in-Ok.is c.space.result _ _ _ c.space.ensures.outcome c.ended.ensures ∙ sym (space_is c.args.row.now c.args.file c.args.end c.args.book.now.text.now c.args.book.now.lines.now c.args.book.now.pages.now)
+returns-in-Ok-clause-answer c = mood_worked c.args.row.now c.args.file c.args.end c.args.book.now.text.now c.args.book.now.lines.now c.args.book.now.pages.now c.start-start.ensures (back (λ t l p. c.in_mood.result ≡ in_mood_by c.args.row.now (length t) (state c.start-start.result l p)) c.shared.ensures c.in_mood.ensures) (space_step c.args.row.now (execute c.args.row.now)) c.in-Ok.is c.space.result _ _ _ c.space.ensures.outcome c.ended.ensures ∙ sym (space_is c.args.row.now c.args.file c.args.end c.args.book.now.text.now c.args.book.now.lines.now c.args.book.now.pages.now)
 
 pub returns-in-Err-clause-answer : goal.returns-in-Err-clause-answer
-returns-in-Err-clause-answer c = mood_refused c.args.row.now c.args.file c.args.end c.args.book.now.text.now c.args.book.now.lines.now c.args.book.now.pages.now c.start-start.ensures c.in_mood.ensures (space_step c.args.row.now (execute c.args.row.now)) c.in-Err.is c.ended-in-Err.ensures ∙ sym (space_is c.args.row.now c.args.file c.args.end c.args.book.now.text.now c.args.book.now.lines.now c.args.book.now.pages.now)
+returns-in-Err-clause-answer c = mood_refused c.args.row.now c.args.file c.args.end c.args.book.now.text.now c.args.book.now.lines.now c.args.book.now.pages.now c.start-start.ensures (back (λ t l p. c.in_mood.result ≡ in_mood_by c.args.row.now (length t) (state c.start-start.result l p)) c.shared.ensures c.in_mood.ensures) (space_step c.args.row.now (execute c.args.row.now)) c.in-Err.is c.ended-in-Err.ensures ∙ sym (space_is c.args.row.now c.args.file c.args.end c.args.book.now.text.now c.args.book.now.lines.now c.args.book.now.pages.now)

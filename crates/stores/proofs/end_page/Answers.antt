@@ -1,4 +1,3 @@
-use native.Mathlib.Omega.{arith}
 use borrow.Author.Tests.{eq-eqb, ne_eqb}
 use mathlib.Core.Path.{sym, ◌∙◌}
 use Rattle.stores.proofs.Ends.{end_page_full, end_page_cut, end_page_fill}
@@ -16,8 +15,5 @@ put_length-requires-then-run c = c.page_ended.ensures.1 c.if-page_ended.false
 pub returns-then-run-clause-ended : goal.returns-then-run-clause-ended
 returns-then-run-clause-ended c = end_page_cut _ _ _ _ _ _ _ _ _ c.if-run.true (sym c.page_ended.ensures.0 ∙ c.if-page_ended.false) c.line_index-i.ensures.0 c.put_length.ensures (simp (ne_eqb _ _ c.if-character-eq1.false)) c.put_length-then-run.ensures c.both_moved-then-run.ensures
 
-pub blank_lines-requires : goal.blank_lines-requires
-blank_lines-requires c = record { small = record { page_low = c.requires.small.page_low; page_high = c.requires.small.page_high; line_low = omega arith; line_high = omega arith; lines_high = c.requires.small.lines_high; characters_high = c.requires.small.characters_high }; le_line = omega (arith, c.saturating_sub-rest.ensures, c.page_length-size.ensures.1, c.requires.small.line_high) }
-
 pub returns-clause-ended : goal.returns-clause-ended
-returns-clause-ended c = end_page_fill _ _ _ _ _ c.if-run.false c.blank_line.ensures c.page_length-size.ensures.0 c.saturating_sub-rest.ensures c.blank_lines.ensures c.both_moved-2.ensures
+returns-clause-ended c = end_page_fill _ _ _ _ _ _ _ _ c.if-run.false c.blank_page.ensures c.both_moved-2.ensures

@@ -1,9 +1,14 @@
 use native.Mathlib.Omega.{arith}
-use Rattle.whole.proofs.Digits.{stored_none, stored_more}
+use mathlib.Core.Path.{sym, ◌∙◌}
+use Rattle.std.proofs.lemmas.List.{length-take-le}
+use Rattle.whole.proofs.Digits.{at_most_ten}
 use Rattle.whole.proofs.put_digits.Goals as goal
 
-pub loop-i-init : goal.loop-i-init
-loop-i-init c = stored_none c.args.places.now c.args.n c.requires
+pub slice_bounds-text-end : goal.slice_bounds-text-end
+slice_bounds-text-end c = omega (arith, c.digit_count-count.ensures, at_most_ten c.args.n)
 
-pub loop-i-preserved : goal.loop-i-preserved
-loop-i-preserved c = stored_more _ _ _ _ _ (omega arith) (omega arith) c.loop-i.invariant
+pub slice_bounds-places-end : goal.slice_bounds-places-end
+slice_bounds-places-end c = sym (length-take-le _ _ (omega (arith, c.digit_count-count.ensures, at_most_ten c.args.n)))
+
+pub fill_digits-requires : goal.fill_digits-requires
+fill_digits-requires c = length-take-le _ _ (omega (arith, c.digit_count-count.ensures, at_most_ten c.args.n)) ∙ c.digit_count-count.ensures

@@ -8,4 +8,4 @@ use Rattle.whole.proofs.whole.Goals as goal
 pub returns-in-Ok : goal.returns-in-Ok
 returns-in-Ok c =
     let h = writes_as_read (read_is _ c.ranges.v) (read_is _ c.ranges.w) c.in-Ok.ensures.ok in
-    whole_0 c.args.v c.args.w c.args.output.now h.not_lowest h.near h.text h.fits (c.unsigned_abs.ensures.value ∙ read_absolute _ c.ranges.v) (read_negative _ c.ranges.v) (ap (lt_z (pos 0)) (read_is _ c.ranges.w)) c.put_padded.ensures
+    whole_0 c.args.v c.args.w c.args.output.now h.not_lowest h.near h.text h.fits (c.unsigned_abs.ensures.value ∙ read_absolute _ c.ranges.v) (read_negative _ c.ranges.v) (ap (lt_z (pos 0)) (read_is _ c.ranges.w)) c.fill_padded.ensures

@@ -1,7 +1,0 @@
-use Rattle.places.proofs.Goods.{good_by_line}
-use Rattle.places.specs.Lent.{state_over}
-use mathlib.Core.Path.{sym}
-use Rattle.places.proofs.BookMut.line_good.Goals as goal
-
-pub returns-then-not-file_ended : goal.returns-then-not-file_ended
-returns-then-not-file_ended c = good_by_line (state_over c.args.run c.args.self.now) c.requires.le_character c.args.reading (sym c.if-not-file_ended.ensures) c.line_ended.ensures
