@@ -106,11 +106,18 @@ pub fn pass_blanks(run: Run, book: &mut BookMut, row: &[u32]) -> Outcome
 {
     let mut here = run;
     loop {
-        let at = lines::good_line(here, true, false, book, row)?;
-        if book.character_here(at) != b' ' {
-            return Ok(at);
+        if book.line_good(here, true) {
+            if book.character_here(here) != b' ' {
+                return Ok(here);
+            }
+            here = passed(here);
+        } else {
+            let at = lines::reach_line(here, true, false, book, row)?;
+            if book.character_here(at) != b' ' {
+                return Ok(at);
+            }
+            here = passed(at);
         }
-        here = passed(at);
     }
 }
 
