@@ -46,7 +46,8 @@ fn compose(
     }
 }
 
-// Plays every line of a source: what a line tells is composed first, and written at once. The loop counts the lines, to a number that no script uses up.
+// Plays every line of a source: what a line tells is composed first, and written at once. The loop counts the lines, to a number that no
+// script uses up.
 pub fn play_all<R: Read, W: Write>(
     source: &mut R,
     writer: &mut W,
