@@ -10,19 +10,17 @@ use lib.ListN.{length}
 use Rattle.rules.specs.declared.Position.{Position}
 use Rattle.rules.specs.declared.File.{File}
 use Rattle.rules.specs.declared.Run.{Run}
-use Rattle.rules.specs.declared.EndedCall.{EndedCall}
 use Rattle.rules.specs.declared.Refusal.{Refusal}
 use Rattle.rules.specs.declared.Refusal.TheVariants.{NotOpen, BadAnswers, BadBook, RightMissing, MoodMissing, TooLarge}
 use Rattle.rules.specs.declared.Taken.{Taken}
 use Rattle.std.specs.Prelude.{Result, Ok, Err}
 use Rattle.rules.specs.declared.Given.{Given}
-use Rattle.rules.specs.declared.Reply.{Reply}
 use Rattle.rules.specs.declared.Given.TheVariants.{Nothing, Character, Integer}
 use Rattle.rules.specs.Book.{choose, State, state, on_run, run_with, in_mood, rights_of, row_fits, all_fits}
-use Rattle.rules.specs.Step.{Outcome, ended_by, refusal_number, Out, done, ends, Step, ◌>>=◌, ◌>>◌, and_then, pure, refusal, need, size, halt, again, mood_on, outcome, done_by, refused_by}
+use Rattle.rules.specs.Step.{Outcome, ended_by, refusal_number, Out, done, ends, Step, ◌>>=◌, ◌>>◌, and_then, pure, refusal, need, size, halt, again, mood_on, outcome, done_by, refused_by, EndedCall}
 use Rattle.rules.specs.Steps.{Action}
 use Rattle.rules.specs.Ready.{Ready}
-use Rattle.rules.specs.Calls.{Value, nothing, value_of, begin, need_row, turnable, putting, getting, leave, after}
+use Rattle.rules.specs.Calls.{Value, nothing, value_of, begin, need_row, turnable, putting, getting, leave, after, Reply}
 use Rattle.laws.specs.Given.{given_out}
 use Rattle.laws.proofs.Ways.{bind_done, bind_ends, need_true, need_false, change_then, test_true, test_false}
 use Rattle.laws.proofs.Entry.{call_ready}

@@ -1,10 +1,9 @@
 -- What the beginning of a call comes to: the tests before work in their order, then what its kind of call needs.
 use Rattle.std.specs.Prelude.{ℕ, Bool, ◌||◌, List, Result, Ok, Err}
 use Rattle.rules.specs.declared.Run.{Run}
-use Rattle.rules.specs.declared.EndedCall.{EndedCall}
 use Rattle.rules.specs.declared.Refusal.TheVariants.{RightMissing, MoodMissing, TooLarge}
 use Rattle.rules.specs.Book.{choose, State, rights_of}
-use Rattle.rules.specs.Step.{Outcome, done_by, refused_by}
+use Rattle.rules.specs.Step.{Outcome, done_by, refused_by, EndedCall}
 use Rattle.entry.specs.Before.{Tested, before_asking, turned_by}
 
 -- the tests by themselves: the first that fails ends the call

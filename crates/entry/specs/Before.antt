@@ -5,14 +5,16 @@ use Rattle.rules.specs.declared.Rights.{Rights}
 use Rattle.rules.specs.declared.Run.{Run}
 use Rattle.rules.specs.declared.Refusal.{Refusal}
 use Rattle.rules.specs.declared.Refusal.TheVariants.{NotOpen, BadAnswers, BadBook, RightMissing, MoodMissing}
+use Rattle.rules.specs.declared.Ending as code_ending
 use Rattle.rules.specs.declared.Ending.TheVariants.{Refused}
-use Rattle.rules.specs.declared.EndedCall.{EndedCall}
+use Rattle.rules.specs.declared.EndedCall as code_ended
+use Rattle.rules.specs.declared.Reply as code_reply
 use Rattle.rules.specs.declared.Taken.{Taken}
 use Rattle.rules.specs.declared.Given.{Given}
 use Rattle.rules.specs.declared.Given.TheVariants.{Nothing}
-use Rattle.rules.specs.declared.Reply.{Reply}
+use Rattle.rules.specs.Calls.{Reply}
 use Rattle.rules.specs.Book.{choose, State, in_mood, row_fits, all_fits}
-use Rattle.rules.specs.Step.{OrEnding, Outcome, done_by, refused_by}
+use Rattle.rules.specs.Step.{Outcome, done_by, refused_by, EndedCall}
 
 -- sizes that fit, of n characters and of l and p lengths
 abbrev pub sizes_are : Shape → ℕ → ℕ → ℕ → Bool
@@ -38,16 +40,16 @@ turnable_by reading r = r.file.rights.«set» || not (choose reading r.file.writ
 abbrev pub turned_by : Bool → Run → Outcome
 turned_by reading r = choose (may_do reading r.file.rights) (choose (turnable_by reading r) (done_by (in_mood r reading)) (Err (refused_by r MoodMissing))) (Err (refused_by r RightMissing))
 
-abbrev pub reply_of : Run → ℕ → OrEnding Given → Reply
+abbrev pub reply_of : {G : Type 0} → Run → ℕ → G → code_reply.Reply G
 reply_of r count given = record { file = r.file; end = r.end; events = r.events; taken = r.taken; count = count; given = given }
 
-abbrev pub refused_reply : Run → Refusal → Reply
+abbrev pub refused_reply : {R S E : Type 0} → Run → R → code_reply.Reply (Result Given (code_ending.Ending R S E))
 refused_reply r n = reply_of r 0 (Err (Refused n))
 
 abbrev pub given_reply : Result (Taken Given) EndedCall → Reply
 given_reply (Ok d) = reply_of d.run 0 (Ok d.value)
 given_reply (Err e) = reply_of e.run 0 (Err e.ending)
 
-abbrev pub ended_reply : Outcome → Reply
+abbrev pub ended_reply : {H : Type 0} → Result Run (code_ended.EndedCall H) → code_reply.Reply (Result Given H)
 ended_reply (Ok r) = reply_of r 0 (Ok Nothing)
 ended_reply (Err e) = reply_of e.run 0 (Err e.ending)

@@ -377,7 +377,7 @@ pub fn turned(run: Run, reading: bool) -> Outcome
 }
 
 // All that a call hands back by value.
-pub fn reply(run: Run, count: usize, given: Result<Given, Ending>) -> Reply
+pub fn reply<G>(run: Run, count: usize, given: G) -> Reply<G>
     ensures { result ≡ reply_of run count given }
 {
     let file = run.file;
@@ -392,8 +392,8 @@ pub fn reply(run: Run, count: usize, given: Result<Given, Ending>) -> Reply
     }
 }
 
-// A refusal.
-pub fn refuse(run: Run, refusal: Refusal) -> Reply
+// A refusal, told by its case or by any number.
+pub fn refuse<R, S, E>(run: Run, refusal: R) -> Reply<Result<Given, Ending<R, S, E>>>
     ensures { result ≡ refused_reply run refusal }
 {
     reply(run, 0, Err(Ending::Refused(refusal)))
@@ -409,8 +409,8 @@ pub fn given(found: Result<Taken<Given>, EndedCall>) -> Reply
     }
 }
 
-// A call that gives nothing but how it ended.
-pub fn ended(outcome: Outcome) -> Reply
+// A call that gives nothing but how it ended, which is told as the caller has it.
+pub fn ended<H>(outcome: Result<Run, EndedCall<H>>) -> Reply<Result<Given, H>>
     ensures { result ≡ ended_reply outcome }
 {
     match outcome {

@@ -5,22 +5,21 @@ use native.Mathlib.Omega.{arith}
 use mathlib.Core.Path.{◌≡◌, refl, sym, ap, subst, ◌∙◌}
 use mathlib.Core.List.{List}
 use mathlib.Core.Bool.{Bool, true, false}
-use lib.Dec.{ltb, eqb}
+use lib.Dec.{ltb}
 use borrow.Author.Tests.{eq-eqb, ne_eqb}
 use Rattle.rules.specs.declared.Position.{Position}
 use Rattle.rules.specs.declared.Run.{Run}
 use Rattle.rules.specs.declared.Event as code
 use Rattle.rules.specs.declared.Event.TheVariants.{LogicalEnd, PageEnd}
-use Rattle.rules.specs.declared.EndedCall.{EndedCall}
 use Rattle.rules.specs.declared.Refusal.{Refusal}
 use Rattle.rules.specs.declared.Refusal.TheVariants.{RightMissing, MoodMissing, OutOfRange, ProgramJumped, LogicalEndMet}
 use Rattle.rules.specs.declared.Stop.TheVariants.{EndReached}
-use Rattle.std.specs.Prelude.{Ok, Err}
+use Rattle.std.specs.Prelude.{Err}
 use Rattle.rules.specs.Book.{choose, before, in_bounds, next_line, next_page, previous_character, State, state, on_run, here, end_of, shape_of, rights_of, moved_to, in_mood, with_file, rewound, logical_end, page_end, Answer, is_false, jump, is_true, Mending}
-use Rattle.rules.specs.Step.{Ending, Out, done, ends, Step, ◌>>=◌, pure, halt, refuse_at, refusal, stopped, change, branch, need, outcome, event_as, done_by, refused_by, refused_at, stopped_by, file_ended, page_ended, on_end_line, again, go_to, signal, mood_on, backspace, reset, end_line, end_page, Outcome, refusal_number}
+use Rattle.rules.specs.Step.{Ending, Out, done, ends, Step, ◌>>=◌, pure, halt, refuse_at, refusal, stopped, change, branch, need, outcome, event_as, done_by, refused_by, refused_at, stopped_by, file_ended, page_ended, on_end_line, again, go_to, signal, mood_on, backspace, reset, end_line, end_page, Outcome, refusal_number, EndedCall}
 use Rattle.rules.specs.Steps.{Action, good_file, good_page, at_page_end, newline, newpage, set_to, perform, answered, file_end, file_end_number, signals, signal_while, upon, good_file_body, good_page_body, at_page_end_body, newline_body, newpage_body, set_to_body, perform_body, answered_body, body, stage, execute}
 use Rattle.laws.proofs.Validity.{to_end, end_valid, end_further}
-use Rattle.laws.proofs.Progress.{Gain, Ready, FileGood, Done, Site, site_lower, gain_less, moved_gain, From, from_gain, heard, answer}
+use Rattle.laws.proofs.Progress.{Gain, Ready, FileGood, Done, Site, site_lower, gain_less, moved_gain, From, from_gain, heard}
 use Rattle.laws.proofs.Unfolding.{On, unfold_execute}
 use Rattle.laws.proofs.Ways.{bind_done, bind_ends, branch_true, branch_false, test_true, test_false, need_true, need_false, change_then, signal_then, outcome_at, outcome_is, done_of, Asked, answer_is, after_event, from_lower, refuse_as, signals_default, signals_jumps, signals_answered, while_stays, while_ends, while_again, ending_is}
 

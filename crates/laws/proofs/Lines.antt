@@ -4,23 +4,21 @@ use native.Mathlib.Omega.{arith}
 use mathlib.Core.Path.{◌≡◌, refl, sym, ap, ◌∙◌}
 use mathlib.Core.List.{List}
 use mathlib.Core.Bool.{◌&&◌, Bool, true, false, ◌||◌}
-use lib.Dec.{ltb, eqb}
+use lib.Dec.{ltb}
 use lib.ListN.{set}
-use borrow.Author.Tests.{eq-eqb, ne_eqb, lt-ltb, le-ltb, eqb-true, eqb-false}
+use borrow.Author.Tests.{eq-eqb, ne_eqb, lt-ltb, le-ltb}
 use Rattle.rules.specs.declared.Run.{Run}
-use Rattle.rules.specs.declared.Event as code
 use Rattle.rules.specs.declared.Event.TheVariants.{LineEnd, Character}
-use Rattle.rules.specs.declared.EndedCall.{EndedCall}
 use Rattle.rules.specs.declared.Refusal.TheVariants.{OutOfRange, BadCharacter, ProgramJumped, StringDoesNotFit}
 use Rattle.rules.specs.declared.Stop.TheVariants.{LineOver}
 use Rattle.std.specs.Prelude.{Ok, Err}
 use Rattle.rules.specs.Book.{place, before, within, next_character, previous_character, character_index, State, state, on_run, here, end_of, shape_of, line_here, moved_to, suggested, Event, line_end, Mending, Answer, is_false, jump, is_true, next_line, in_mood}
-use Rattle.rules.specs.Step.{Ending, Out, done, ends, ◌>>=◌, pure, halt, refuse_at, look, change, branch, test, need, ended_by, outcome_giving, outcome, done_by, refused_by, refused_at, stopped_by, file_ended, page_ended, line_ended, store, on_end_line, Outcome}
+use Rattle.rules.specs.Step.{Ending, Out, done, ends, ◌>>=◌, pure, halt, refuse_at, look, change, branch, test, need, ended_by, outcome_giving, outcome, done_by, refused_by, refused_at, stopped_by, file_ended, page_ended, line_ended, store, on_end_line, Outcome, EndedCall}
 use Rattle.rules.specs.Steps.{string_end, good_file, good_page, good_line, at_line_end, newline, perform, answered, put_character, set_character_number, printable, backspaces, signals, signal_while, upon, good_line_body, at_line_end_body, character_event, put_character_body, space_step, set_character_number_body, body, measure, execute}
 use Rattle.laws.specs.Runs.{stored_by}
-use Rattle.laws.proofs.Progress.{Ready, LineGood, Done, Site, site_lower, gain_less, From, from_gain, heard, answer}
+use Rattle.laws.proofs.Progress.{Ready, LineGood, Done, Site, site_lower, gain_less, From, from_gain, heard}
 use Rattle.laws.proofs.Unfolding.{On, unfold_execute, space_post, event_post}
-use Rattle.laws.proofs.Ways.{reached, halted, bind_done, bind_ends, same_then, branch_true, branch_false, test_true, test_false, need_true, need_false, look_then, signal_then, outcome_at, outcome_is, post_done_of, done_of, Asked, answer_is, after_event, from_lower, from_later, signals_default, signals_jumps, signals_answered, ending_is}
+use Rattle.laws.proofs.Ways.{reached, halted, bind_done, bind_ends, branch_true, branch_false, test_true, test_false, need_true, need_false, look_then, signal_then, outcome_at, outcome_is, post_done_of, done_of, Asked, answer_is, after_event, from_lower, from_later, signals_default, signals_jumps, signals_answered, ending_is}
 use Rattle.laws.proofs.Cases.{law_good_page, held_stays, good_file_stays, back_done, newline_page, newline_moves, answered_perform, answered_ends, answered_done, perform_newline_reading, perform_newline_writing}
 
 -- ---- good line, and the event at a line's end

@@ -11,12 +11,10 @@ use lib.Seq.{sets}
 use borrow.Author.Tests.{le-leb, lt-leb, leb-true, leb-false, ltb-true, eq-eqb, ne_eqb}
 use Rattle.rules.specs.declared.Position.{Position}
 use Rattle.rules.specs.declared.Run.{Run}
-use Rattle.rules.specs.declared.Event.TheVariants as code
-use Rattle.rules.specs.declared.EndedCall.{EndedCall}
 use Rattle.rules.specs.declared.Refusal.TheVariants.{LineTooShort}
 use Rattle.std.specs.Prelude.{Err}
 use Rattle.rules.specs.Book.{choose, within, next_character, character_index, State, state, on_run, here, shape_of, line_here, moved_to, in_mood, Event, Mending, suggest, Answer, is_false, jump, is_true, suggested}
-use Rattle.rules.specs.Step.{Ending, Out, done, ends, Step, ◌>>=◌, and_then, pure, change, halt, refuse_at, refusal_at, branch, pass, look, character_here, outcome_giving, outcome, done_by, refused_by, Outcome}
+use Rattle.rules.specs.Step.{Ending, Out, done, ends, Step, ◌>>=◌, and_then, pure, change, halt, refuse_at, refusal_at, branch, pass, look, character_here, done_by, refused_by, Outcome, EndedCall}
 use Rattle.rules.specs.Steps.{Action, perform, answered, good_line, at_line_end, put_character, room_for, pass_blanks, more_digits, printable, digit, fits_here, is_stop, signals, signal_while, upon, perform_body, answered_body, character_event, room_for_body, pass_blanks_body, more_digits_body, body, stage, execute}
 use Rattle.rules.specs.Whole.{digits_up_to, signed, padded, whole_text}
 use Rattle.rules.specs.Calls.{nothing, an_integer, put_characters, put_text, first_digit, with_sign, integer_given, sign_before, take_integer}

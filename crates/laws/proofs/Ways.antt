@@ -5,19 +5,16 @@ use native.Mathlib.Omega.{arith}
 use mathlib.Core.Path.{◌≡◌, refl, sym, ap, subst, ◌∙◌}
 use mathlib.Core.List.{List}
 use mathlib.Core.Bool.{Bool, true, false}
-use lib.Dec.{eqb}
 use lib.ListN.{length}
-use borrow.Author.Tests.{eq-eqb, ne_eqb, eqb-true, eqb-false}
 use Rattle.rules.specs.declared.Position.{Position}
 use Rattle.rules.specs.declared.Run.{Run}
 use Rattle.rules.specs.declared.Event as code
 use Rattle.rules.specs.declared.Refusal.{Refusal}
 use Rattle.rules.specs.declared.Refusal.TheVariants.{ProgramJumped}
-use Rattle.rules.specs.declared.EndedCall.{EndedCall}
 use Rattle.rules.specs.declared.Taken.{Taken}
 use Rattle.std.specs.Prelude.{Result, Ok, Err, IsErrAnd}
-use Rattle.rules.specs.Book.{choose, State, state, on_run, signalled_by, next_word, here, Event, logical_end, physical_end, page_end, line_end, Mending, Answer, is_false, is_true, jump, answer_of}
-use Rattle.rules.specs.Step.{Told, signalled, Outcome, ended_by, refusal_number, told_by, event_as, Ending, Out, done, ends, Step, ◌>>=◌, and_then, caught, pure, halt, refuse_at, refusal, attempt, look, change, branch, test, need, outcome_giving, outcome, signal}
+use Rattle.rules.specs.Book.{State, state, on_run, signalled_by, here, Event, logical_end, physical_end, page_end, line_end, Mending, Answer, is_false, is_true, jump}
+use Rattle.rules.specs.Step.{Told, signalled, Outcome, ended_by, refusal_number, told_by, event_as, Ending, Out, done, ends, Step, ◌>>=◌, and_then, caught, pure, halt, refuse_at, refusal, attempt, look, change, branch, test, need, outcome_giving, outcome, signal, EndedCall}
 use Rattle.rules.specs.Steps.{Action, Gives, answered, signals, signal_while, upon, stage, measure, execute}
 use Rattle.laws.specs.Follow.{refuse_by}
 use Rattle.laws.proofs.Validity.{Valid}

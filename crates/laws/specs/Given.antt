@@ -1,10 +1,9 @@
 -- What the code's running call gives, as an outcome of a call's work.
 use Rattle.std.specs.Prelude.{ℕ, List, Result, Ok, Err}
 use Rattle.rules.specs.declared.Taken.{Taken}
-use Rattle.rules.specs.declared.EndedCall.{EndedCall}
 use Rattle.rules.specs.declared.Given.{Given}
 use Rattle.rules.specs.Book.{state}
-use Rattle.rules.specs.Step.{Out, done, ends, ended_by}
+use Rattle.rules.specs.Step.{Out, done, ends, ended_by, EndedCall}
 use Rattle.rules.specs.Calls.{Value, value_of}
 
 abbrev pub given_out : Result (Taken Given) EndedCall → List ℕ → List ℕ → List ℕ → Out Value

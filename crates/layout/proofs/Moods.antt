@@ -7,15 +7,13 @@ use lib.ListN.{length}
 use Rattle.rules.specs.declared.Position.{Position}
 use Rattle.rules.specs.declared.File.{File}
 use Rattle.rules.specs.declared.Run.{Run}
-use Rattle.rules.specs.declared.EndedCall.{EndedCall}
 use Rattle.rules.specs.declared.Refusal.TheVariants.{RightMissing, MoodMissing}
 use Rattle.std.specs.Prelude.{Ok, Err}
-use Rattle.rules.specs.declared.Reply.{Reply}
 use Rattle.rules.specs.Book.{choose, State, state, on_run, run_with, in_mood, rights_of}
-use Rattle.rules.specs.Step.{Outcome, Ending, Out, done, ends, Step, ◌>>=◌, ◌>>◌, and_then, pure, change, change_run, need, look, branch, again, mood_on, outcome}
+use Rattle.rules.specs.Step.{Outcome, Ending, Out, done, ends, Step, ◌>>=◌, ◌>>◌, and_then, pure, change, change_run, need, look, branch, again, mood_on, outcome, EndedCall}
 use Rattle.rules.specs.Steps.{Action, newline, newpage, set_to, set_character_number, space_step, execute}
 use Rattle.rules.specs.Ready.{Ready}
-use Rattle.rules.specs.Calls.{Value, nothing, begin, need_row, in_mood_on, spacing, newlining, newpaging, setting_character_number, setting, leave, after, book, call, work, asking_work, buffer_of, asking, spaces, newlines, newpages, sets, sets_character_number}
+use Rattle.rules.specs.Calls.{Value, nothing, begin, need_row, in_mood_on, spacing, newlining, newpaging, setting_character_number, setting, leave, after, book, call, work, asking_work, buffer_of, asking, spaces, newlines, newpages, sets, sets_character_number, Reply}
 use Rattle.laws.proofs.Ways.{look_then}
 use Rattle.entry.specs.Before.{ended_reply}
 use Rattle.begins.specs.Begin.{in_mood_by, may_set_by}

@@ -2,8 +2,9 @@
 #![tactic(auto)]
 
 ghost use Rattle.std.specs.Prelude.{◌≡◌};
-ghost use Rattle.rules.specs.Step.{event_number};
-ghost use Rattle.numbers.specs.Numbers.{result_of, InNumbers};
+ghost use Rattle.rules.specs.declared.Position.{Position};
+ghost use Rattle.rules.specs.Step.{Ending, ending_as};
+ghost use Rattle.numbers.specs.Numbers.{number_or_none, status_of, status_means, number_means, Says, result_of, InNumbersBy};
 
 use rules::{Ending, Event, Given, Position, Reply};
 
@@ -26,22 +27,92 @@ pub struct CallResult {
     pub signalled: Position,
 }
 
-// The number of an event.
-pub fn event_number(event: Event) -> u8
-    ensures { result ≡ event_number event }
+// How a call ended, in numbers: that of its refusal, the stop of its string, and that of the event that it ended in; 0 is none.
+#[derive(Clone, Copy)]
+pub struct Status {
+    pub number: u8,
+    pub stop: u8,
+    pub event: u8,
+}
+
+// How a call ended, as the core tells it by cases or another caller by numbers of its own.
+pub trait TellsEnding: Copy {
+    // What it means, with the record left at a position.
+    ghost means: { Self → Position → Ending };
+
+    fn status(self) -> Status
+        ensures { Says result (means self) };
+}
+
+impl TellsEnding for Status {
+    ghost means = { status_means };
+
+    fn status(self) -> Status {
+        self
+    }
+}
+
+impl TellsEnding for Ending<u8, u8, u8> {
+    ghost means = { number_means };
+
+    fn status(self) -> Status {
+        match self {
+            Ending::Refused(number) => status_of(number, 0, 0),
+            Ending::RefusedAt(event, number) => status_of(number, 0, event),
+            Ending::Stopped(stop) => status_of(0, stop, 0),
+        }
+    }
+}
+
+impl TellsEnding for Ending {
+    ghost means = { ending_as };
+
+    fn status(self) -> Status {
+        match self {
+            Ending::Refused(refusal) => status_of(refusal.number(), 0, 0),
+            Ending::RefusedAt(event, refusal) => {
+                status_of(refusal.number(), 0, event_number(Some(event)))
+            }
+            Ending::Stopped(stop) => status_of(0, stop.number(), 0),
+        }
+    }
+}
+
+// The number of an event, 0 where none is told.
+pub fn event_number(event: Option<Event>) -> u8
+    ensures { result ≡ number_or_none event }
 {
     match event {
-        Event::LogicalEnd => 1,
-        Event::PhysicalEnd => 2,
-        Event::PageEnd => 3,
-        Event::LineEnd => 4,
-        Event::Character => 5,
-        Event::Value => 6,
+        None => 0,
+        Some(Event::LogicalEnd) => 1,
+        Some(Event::PhysicalEnd) => 2,
+        Some(Event::PageEnd) => 3,
+        Some(Event::LineEnd) => 4,
+        Some(Event::Character) => 5,
+        Some(Event::Value) => 6,
+    }
+}
+
+// A status of these numbers.
+pub fn status_of(number: u8, stop: u8, event: u8) -> Status
+    ensures { result ≡ status_of number stop event }
+{
+    Status {
+        number,
+        stop,
+        event,
     }
 }
 
 // A reply in numbers, with its number, stop and event, and what it gives.
-pub fn result_of(reply: Reply, number: u8, stop: u8, event: u8, given: u8, value: i32) -> CallResult
+pub fn result_of<G: Drop>(
+    reply: Reply<G>,
+    number: u8,
+    stop: u8,
+    event: u8,
+    given: u8,
+    value: i32,
+) -> CallResult
     ensures { result ≡ result_of reply number stop event given value }
 {
     CallResult {
@@ -60,17 +131,16 @@ pub fn result_of(reply: Reply, number: u8, stop: u8, event: u8, given: u8, value
 
 // A reply in numbers. It is part of each caller, so that no reply is copied.
 #[inline(always)]
-pub fn in_numbers(reply: Reply) -> CallResult
-    ensures { InNumbers reply reply.file result }
+pub fn in_numbers<H: TellsEnding>(reply: Reply<Result<Given, H>>) -> CallResult
+    ensures { InNumbersBy H.means reply reply.file result }
 {
     match reply.given {
         Ok(Given::Nothing) => result_of(reply, 0, 0, 0, 0, 0),
         Ok(Given::Character(b)) => result_of(reply, 0, 0, 0, 1, i32::from(b)),
         Ok(Given::Integer(v)) => result_of(reply, 0, 0, 0, 2, v),
-        Err(Ending::Refused(refusal)) => result_of(reply, refusal.number(), 0, 0, 0, 0),
-        Err(Ending::RefusedAt(event, refusal)) => {
-            result_of(reply, refusal.number(), 0, event_number(event), 0, 0)
+        Err(ending) => {
+            let status = ending.status();
+            result_of(reply, status.number, status.stop, status.event, 0, 0)
         }
-        Err(Ending::Stopped(stop)) => result_of(reply, 0, stop.number(), 0, 0, 0),
     }
 }

@@ -3,12 +3,10 @@
 use Rattle.std.specs.Prelude.{ℕ, ◌≡◌, List, Result}
 use Rattle.rules.specs.declared.Position.{Position}
 use Rattle.rules.specs.declared.Run.{Run}
-use Rattle.rules.specs.declared.Reply.{Reply}
 use Rattle.rules.specs.declared.Taken.{Taken}
-use Rattle.rules.specs.declared.EndedCall.{EndedCall}
 use Rattle.rules.specs.Book.{State, state}
-use Rattle.rules.specs.Step.{Out, Outcome, outcome, outcome_giving}
-use Rattle.rules.specs.Calls.{Book, book, After, after}
+use Rattle.rules.specs.Step.{Out, Outcome, outcome, outcome_giving, EndedCall}
+use Rattle.rules.specs.Calls.{Book, book, After, after, Reply}
 use Rattle.places.specs.declared.BookRef.{BookRef}
 use Rattle.places.specs.declared.BookMut.{BookMut}
 

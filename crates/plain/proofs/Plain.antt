@@ -11,10 +11,9 @@ use Rattle.rules.specs.declared.Run.{Run}
 use Rattle.rules.specs.declared.Refusal.{Refusal}
 use Rattle.rules.specs.declared.Refusal.TheVariants.{BadBook, RightMissing, OutOfRange}
 use Rattle.std.specs.Prelude.{Ok, Err}
-use Rattle.rules.specs.declared.Reply.{Reply}
 use Rattle.rules.specs.Book.{choose, State, state, on_run, run_with, with_file, file_as, file_choosing, file_opened, rewound, place, moved_to, previous_character, here, rights_of, shape_fits, book_fits}
 use Rattle.rules.specs.Step.{Outcome, refusal_number, done, ends, Step, ◌>>=◌, ◌>>◌, and_then, pure, refusal, size, change, outcome, done_by, refused_by, reset, backspace}
-use Rattle.rules.specs.Calls.{Value, nothing, begin, established, establishing, opening, closing, choosing, resetting, backspacing, leave, after, book, call, work, plain_work, buffer_of, plain, establishes, opens, closes, chooses, resets, backspaces}
+use Rattle.rules.specs.Calls.{Value, nothing, begin, established, establishing, opening, closing, choosing, resetting, backspacing, leave, after, book, call, work, plain_work, buffer_of, plain, establishes, opens, closes, chooses, resets, backspaces, Reply}
 use Rattle.running.specs.Outcomes.{reset_by, backspaced_by}
 use Rattle.laws.proofs.Ways.{need_true, need_false, change_then}
 use Rattle.entry.specs.Before.{Tested, before_work, refused_reply, ended_reply}

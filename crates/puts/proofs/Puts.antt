@@ -8,14 +8,12 @@ use lib.ListN.{length}
 use Rattle.rules.specs.declared.Position.{Position}
 use Rattle.rules.specs.declared.File.{File}
 use Rattle.rules.specs.declared.Run.{Run}
-use Rattle.rules.specs.declared.EndedCall.{EndedCall}
 use Rattle.std.specs.Prelude.{Ok, Err}
-use Rattle.rules.specs.declared.Reply.{Reply}
 use Rattle.rules.specs.Book.{State, state, run_with}
-use Rattle.rules.specs.Step.{Outcome, Step, ◌>>=◌, ◌>>◌, and_then, pure, need, outcome}
+use Rattle.rules.specs.Step.{Outcome, Step, ◌>>=◌, ◌>>◌, and_then, pure, need, outcome, EndedCall}
 use Rattle.rules.specs.Steps.{put_character, execute}
 use Rattle.rules.specs.Whole.{whole_text, lowest}
-use Rattle.rules.specs.Calls.{Value, nothing, begin, need_row, putting, put_characters, putting_characters, put_text, putting_integer, after, book, call, work, asking_work, buffer_of, asking, puts_character, puts_string, puts_integer}
+use Rattle.rules.specs.Calls.{Value, nothing, begin, need_row, putting, put_characters, putting_characters, put_text, putting_integer, after, book, call, work, asking_work, buffer_of, asking, puts_character, puts_string, puts_integer, Reply}
 use Rattle.entry.specs.Before.{ended_reply}
 use Rattle.begins.specs.Begin.{prepared_by, lowest_by}
 use Rattle.begins.proofs.Begins.{Leads, leads_as, put_leads, lowest_leads, lowest_halts, not_lowest_is, start_of, begun, call_refused, call_worked}

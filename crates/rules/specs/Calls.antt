@@ -5,9 +5,9 @@ use Rattle.rules.specs.declared.Position.{Position}
 use Rattle.rules.specs.declared.File.{File}
 use Rattle.rules.specs.declared.Given.{Given}
 use Rattle.rules.specs.declared.Given.TheVariants.{Nothing, Character, Integer}
-use Rattle.rules.specs.declared.Reply.{Reply}
+use Rattle.rules.specs.declared.Reply as code_reply
 use Rattle.rules.specs.Book.{choose, place, before, within, page_length, line_length, character_index, State, state, here, end_of, shape_of, rights_of, file_as, file_choosing, file_opened, run_with, with_file, rewound, row_fits, shape_fits, book_fits, all_fits, Event}
-use Rattle.rules.specs.Step.{Ending, refusal_at, ending_as, OrEnding, Out, done, ends, Step, ◌>>=◌, ◌>>◌, pure, halt, refuse_at, stopped, finished, attempt, look, change, change_run, branch, test, need, again, pass, mood_on, backspace, reset, character_here, size}
+use Rattle.rules.specs.Step.{Ending, refusal_at, ending_as, OrEnded, OrEnding, Out, done, ends, Step, ◌>>=◌, ◌>>◌, pure, halt, refuse_at, stopped, finished, attempt, look, change, change_run, branch, test, need, again, pass, mood_on, backspace, reset, character_here, size}
 use Rattle.rules.specs.Steps.{good_line, newline, newpage, set_to, put_character, room_for, pass_blanks, more_digits, set_character_number, printable, digit, signals, character_event, space_step, execute}
 use Rattle.rules.specs.Whole.{whole_text, lowest}
 
@@ -424,24 +424,34 @@ run (k ∷ ks) f b =
 
 -- ---- the code's reply, as what a call hands back and leaves
 
--- ending and value of what is given, with the record left at x
-abbrev pub ending_of : OrEnding Given → Position → Ending
-ending_of (Ok given) x = finished
-ending_of (Err e) x = ending_as e x
+-- ending and value of what is given, or of how the call ended, with the record left at x; m says what such an ending means
+abbrev pub ending_by : {H : Type 0} → (H → Position → Ending) → OrEnded Given H → Position → Ending
+ending_by m (Ok given) x = finished
+ending_by m (Err e) x = m e x
 
 abbrev pub value_of : Given → Value
 value_of Nothing = nothing
 value_of (Character b) = a_character b
 value_of (Integer v) = an_integer v
 
-abbrev pub value_given : OrEnding Given → Value
+abbrev pub value_given : {H : Type 0} → OrEnded Given H → Value
 value_given (Ok given) = value_of given
 value_given (Err e) = nothing
 
 -- with the lent output and the book's lists at exit
-abbrev pub after : Reply → List ℕ → List ℕ → List ℕ → List ℕ → After
-after r buffer t l p = record {
-  result = record { ending = ending_of r.given r.file.position; events = r.events; taken = r.taken; count = r.count; value = value_given r.given; buffer = buffer };
+abbrev pub after_by : {H : Type 0} → (H → Position → Ending) → code_reply.Reply (OrEnded Given H) → List ℕ → List ℕ → List ℕ → List ℕ → After
+after_by m r buffer t l p = record {
+  result = record { ending = ending_by m r.given r.file.position; events = r.events; taken = r.taken; count = r.count; value = value_given r.given; buffer = buffer };
   file = r.file;
   book = book t l p r.end;
 }
+
+-- the same of what the core's calls hand back
+abbrev pub Reply : Type 0
+Reply = code_reply.Reply (OrEnding Given)
+
+abbrev pub ending_of : OrEnding Given → Position → Ending
+ending_of given x = ending_by ending_as given x
+
+abbrev pub after : Reply → List ℕ → List ℕ → List ℕ → List ℕ → After
+after r buffer t l p = after_by ending_as r buffer t l p

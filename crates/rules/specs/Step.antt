@@ -17,7 +17,7 @@ use Rattle.rules.specs.declared.Stop.{Stop}
 use Rattle.rules.specs.declared.Stop.TheVariants.{Terminator, LineOver, EndReached, OutputFull}
 use Rattle.rules.specs.declared.Ending as code_ending
 use Rattle.rules.specs.declared.Ending.TheVariants.{Refused, RefusedAt, Stopped}
-use Rattle.rules.specs.declared.EndedCall.{EndedCall}
+use Rattle.rules.specs.declared.EndedCall as code_ended
 use Rattle.rules.specs.declared.Taken.{Taken}
 use Rattle.rules.specs.Book.{choose, place, before, next_character, previous_character, next_line, next_page, Lengths, lengths, page_length, line_index, line_length, character_index, State, state, on_run, with_lengths, here, end_of, shape_of, rights_of, page_here, line_here, with_file, with_end, moved_to, both_moved_to, in_mood, rewound, Event, logical_end, physical_end, page_end, line_end, character, value, next_word, signalled_by, Mending, Answer, is_false, jump, is_true, answer_of}
 
@@ -329,15 +329,26 @@ stop_number LineOver = 2
 stop_number EndReached = 3
 stop_number OutputFull = 4
 
--- what an ending of the code means, with the record left at x
-abbrev pub ending_as : code_ending.Ending → Position → Ending
+-- an ending as the core's steps have it, each part told by its case
+abbrev pub EndingCase : Type 0
+EndingCase = code_ending.Ending Refusal Stop code.Event
+
+-- what it means, with the record left at x
+abbrev pub ending_as : EndingCase → Position → Ending
 ending_as (Refused r) x = refusal (refusal_number r)
 ending_as (RefusedAt event r) x = record { number = refusal_number r; stop = 0; told = told_by event x }
 ending_as (Stopped s) x = stopped (stop_number s)
 
--- what the code gives, or an ending
+-- what the code gives, or how it ended: as H has it, or as the core's steps do
+abbrev pub OrEnded : Type 0 → Type 0 → Type 0
+OrEnded A H = Result A H
+
 abbrev pub OrEnding : Type 0 → Type 0
-OrEnding A = Result A code_ending.Ending
+OrEnding A = OrEnded A EndingCase
+
+-- a call that a step ended so
+abbrev pub EndedCall : Type 0
+EndedCall = code_ended.EndedCall EndingCase
 
 abbrev pub ended_by : EndedCall → Ending
 ended_by e = ending_as e.ending e.run.file.position
@@ -354,18 +365,19 @@ abbrev pub outcome : Outcome → List ℕ → List ℕ → List ℕ → Out Unit
 outcome (Ok r) t l p = done tt (state r l p) t
 outcome (Err e) t l p = ends (ended_by e) (state e.run l p) t
 
-abbrev pub ended_with : Run → code_ending.Ending → EndedCall
+abbrev pub ended_with : {H : Type 0} → Run → H → code_ended.EndedCall H
 ended_with r e = record { run = r; ending = e }
 
 abbrev pub done_by : Run → Outcome
 done_by r = Ok r
 
-abbrev pub refused_by : Run → Refusal → EndedCall
+-- the endings that a caller makes, told by cases or by whatever else it chooses, as numbers
+abbrev pub refused_by : {R S E : Type 0} → Run → R → code_ended.EndedCall (code_ending.Ending R S E)
 refused_by r n = ended_with r (Refused n)
 
 -- right after an event
-abbrev pub refused_at : Run → code.Event → Refusal → EndedCall
+abbrev pub refused_at : {R S E : Type 0} → Run → E → R → code_ended.EndedCall (code_ending.Ending R S E)
 refused_at r event n = ended_with r (RefusedAt event n)
 
-abbrev pub stopped_by : Run → Stop → EndedCall
+abbrev pub stopped_by : {R S E : Type 0} → Run → S → code_ended.EndedCall (code_ending.Ending R S E)
 stopped_by r s = ended_with r (Stopped s)

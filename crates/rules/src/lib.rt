@@ -135,20 +135,21 @@ impl Stop {
     }
 }
 
-// How a step ends the call: by a refusal, by one that an event ends in, or by the stop of a string.
+// How a step ends the call: by a refusal, by one that an event ends in, or by the stop of a string. The core tells each by its case; a
+// caller of its own may tell them by numbers, any of them, or otherwise.
 #[derive(Clone, Copy)]
-pub enum Ending {
-    Refused(Refusal),
-    RefusedAt(Event, Refusal),
-    Stopped(Stop),
+pub enum Ending<R = Refusal, S = Stop, E = Event> {
+    Refused(R),
+    RefusedAt(E, R),
+    Stopped(S),
 }
 
-// A call that a step ended: the running call as it is left, and how. The event of a refusal was signalled at the position where the record
-// is left.
+// A call that a step ended: the running call as it is left, and how, told by H. The event of a refusal was signalled at the position where
+// the record is left.
 #[derive(Clone, Copy)]
-pub struct EndedCall {
+pub struct EndedCall<H = Ending> {
     pub run: Run,
-    pub ending: Ending,
+    pub ending: H,
 }
 
 // The running call after a step that is done, or the call that the step ended.
@@ -172,11 +173,11 @@ pub enum Given {
 // All that a call hands back by value: the record, the logical end, the events signalled, the answers taken, the count
 // of characters delivered, and what is given, or how the call ended.
 #[derive(Clone, Copy)]
-pub struct Reply {
+pub struct Reply<G = Result<Given, Ending>> {
     pub file: File,
     pub end: Position,
     pub events: usize,
     pub taken: usize,
     pub count: usize,
-    pub given: Result<Given, Ending>,
+    pub given: G,
 }

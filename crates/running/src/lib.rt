@@ -45,8 +45,8 @@ pub fn in_mood(run: Run, reading: bool) -> Run
     r
 }
 
-// A call that is refused.
-pub fn refused(run: Run, refusal: Refusal) -> EndedCall
+// A call that is refused. This and the next two end it with what they are given, a case or any number, as it stands.
+pub fn refused<R, S, E>(run: Run, refusal: R) -> EndedCall<Ending<R, S, E>>
     ensures { result ≡ refused_by run refusal }
 {
     let ending = Ending::Refused(refusal);
@@ -54,7 +54,7 @@ pub fn refused(run: Run, refusal: Refusal) -> EndedCall
 }
 
 // The same right after an event, which the refusal ends in.
-pub fn refused_at(run: Run, event: Event, refusal: Refusal) -> EndedCall
+pub fn refused_at<R, S, E>(run: Run, event: E, refusal: R) -> EndedCall<Ending<R, S, E>>
     ensures { result ≡ refused_at run event refusal }
 {
     let ending = Ending::RefusedAt(event, refusal);
@@ -62,7 +62,7 @@ pub fn refused_at(run: Run, event: Event, refusal: Refusal) -> EndedCall
 }
 
 // A string that is stopped.
-pub fn stopped(run: Run, stop: Stop) -> EndedCall
+pub fn stopped<R, S, E>(run: Run, stop: S) -> EndedCall<Ending<R, S, E>>
     ensures { result ≡ stopped_by run stop }
 {
     let ending = Ending::Stopped(stop);

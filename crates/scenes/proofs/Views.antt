@@ -6,14 +6,13 @@ use lib.ListN.{length}
 use Rattle.std.specs.Prelude.{Result, Ok, Err}
 use Rattle.rules.specs.declared.File.{File}
 use Rattle.rules.specs.declared.Refusal.{Refusal}
-use Rattle.rules.specs.declared.Reply.{Reply}
 use Rattle.rules.specs.declared.Given.{Given}
 use Rattle.rules.specs.declared.Stop.{Stop}
 use Rattle.rules.specs.declared.Event.{Event}
 use Rattle.rules.specs.declared.Ending.TheVariants.{Refused, RefusedAt, Stopped}
 use Rattle.rules.specs.Step.{OrEnding, refusal_number}
 use Rattle.rules.specs.Book.{run_with}
-use Rattle.rules.specs.Calls.{Book, After, enter, after, ending_of, call, plain, view_numbers}
+use Rattle.rules.specs.Calls.{Book, After, enter, after, ending_of, call, plain, view_numbers, Reply}
 use Rattle.entry.specs.Before.{refused_reply}
 use Rattle.views.specs.declared.Span.{Span}
 use Rattle.views.specs.Spans.{span_of, number_of, number_after}

@@ -6,7 +6,7 @@ use Rattle.rules.specs.declared.Refusal.{Refusal}
 use Rattle.rules.specs.declared.Ending.TheVariants.{Refused, RefusedAt, Stopped}
 use Rattle.rules.specs.declared.Given.{Given}
 use Rattle.rules.specs.declared.Given.TheVariants.{Nothing}
-use Rattle.rules.specs.declared.Reply.{Reply}
+use Rattle.rules.specs.Calls.{Reply}
 use Rattle.rules.specs.Step.{OrEnding}
 
 -- the refusal, right after an event or not; a call that is done or stopped has none

@@ -10,10 +10,9 @@ use Rattle.stores.proofs.Fills.{put_sets}
 use lib.Seq.{sets, drop-set-lt, length-sets}
 use Rattle.rules.specs.declared.Run.{Run}
 use Rattle.rules.specs.Book.{character_index, State, state, here, shape_of}
-use Rattle.rules.specs.declared.EndedCall.{EndedCall}
 use Rattle.rules.specs.declared.Stop.TheVariants.{Terminator}
 use Rattle.std.specs.Prelude.{Err}
-use Rattle.rules.specs.Step.{done, ends, stopped, stopped_by, outcome_giving}
+use Rattle.rules.specs.Step.{done, ends, stopped, stopped_by, outcome_giving, EndedCall}
 use Rattle.rules.specs.Steps.{pass_blanks}
 use Rattle.rules.specs.Ready.{Ready}
 use Rattle.rules.specs.Calls.{a_string, get_characters}

@@ -13,10 +13,9 @@ use Rattle.rules.specs.declared.File.{File}
 use Rattle.rules.specs.declared.Run.{Run}
 use Rattle.rules.specs.declared.Refusal.{Refusal}
 use Rattle.rules.specs.declared.Refusal.TheVariants.{OutOfRange}
-use Rattle.rules.specs.declared.Reply.{Reply}
 use Rattle.rules.specs.Book.{choose, place, character_index, State, state, run_with, shape_of}
 use Rattle.rules.specs.Step.{Out, done, ends, Step, ◌>>◌, pure, refusal, refusal_number, done_by, need}
-use Rattle.rules.specs.Calls.{nothing, a_view, begin, shown, shown_length, shown_part, or_marker, viewing, view_number, leave, after, Book, book, call, work, plain_work, buffer_of, plain, views, view_numbers}
+use Rattle.rules.specs.Calls.{nothing, a_view, begin, shown, shown_length, shown_part, or_marker, viewing, view_number, leave, after, Book, book, call, work, plain_work, buffer_of, plain, views, view_numbers, Reply}
 use Rattle.places.specs.Small.{Small}
 use Rattle.laws.proofs.Ways.{need_true, need_false, attempt_done, attempt_ends}
 use Rattle.laws.proofs.Entry.{Fits, fits_facts}
