@@ -4,10 +4,8 @@
 #[cfg(test)]
 mod tests {
     use numbers::{CallResult, Status};
-    use rules::{EndedCall, Ending, Event, File, Given, Position, Reply, Rights, Run, Shape};
-
-    // An ending told by numbers.
-    type ByNumber = Ending<u8, u8, u8>;
+    use rules::{EndedCall, Event, File, Position, Rights, Run, Shape};
+    use running::Ends;
 
     fn running_call() -> Run {
         let place = Position {
@@ -51,37 +49,50 @@ mod tests {
 
     #[test]
     fn any_number_is_refused(rt: HostRuntime) {
-        for number in [0, 7, 13, 17, 255] {
-            let refused: Reply<Result<Given, ByNumber>> = entry::refuse(running_call(), number);
-            let result = numbers::in_numbers(refused);
-            assert_eq!(rt; told(result), [number, 0, 0]);
-            assert_eq!(rt; result.count, 0);
-            assert_eq!(rt; result.taken, 2);
+        for number in [0u8, 7, 13, 17, 255] {
+            let result_of = numbers::in_numbers(entry::refuse(running_call(), number));
+            assert_eq!(rt; told(result_of), [number, 0, 0]);
+            assert_eq!(rt; result_of.count, 0);
+            assert_eq!(rt; result_of.taken, 2);
         }
     }
 
     #[test]
     fn any_number_ends_a_call(rt: HostRuntime) {
         let run = running_call();
-        let refused: EndedCall<ByNumber> = running::refused(run, 13);
-        let after_event: EndedCall<ByNumber> = running::refused_at(run, 4, 7);
-        let after_none: EndedCall<ByNumber> = running::refused_at(run, 0, 7);
-        let stopped: EndedCall<ByNumber> = running::stopped(run, 9);
+        let refused = numbers::in_numbers(entry::ended(Err(running::refused(run, 13u8))));
+        let after_event = numbers::in_numbers(entry::ended(Err(running::refused_at(run, 4, 7u8))));
+        let after_none = numbers::in_numbers(entry::ended(Err(running::refused_at(run, 0, 7u8))));
+        let stopped = numbers::in_numbers(entry::ended(Err(running::stopped(run, 9u8))));
+        assert_eq!(rt; told(refused), [13, 0, 0]);
+        assert_eq!(rt; told(after_event), [7, 0, 4]);
+        assert_eq!(rt; told(after_none), [7, 0, 0]);
+        assert_eq!(rt; told(stopped), [0, 9, 0]);
+    }
+
+    // Number 0 and stop 0 end no call, and then no event is told.
+    #[test]
+    fn a_step_that_is_done_tells_nothing_more(rt: HostRuntime) {
+        let run = running_call();
+        let done = running::refused_at(run, 4, 0u8);
+        let status = Status {
+            number: 0,
+            stop: 0,
+            event: 4,
+        };
+        let by_status = EndedCall {
+            run: run,
+            ending: status,
+        };
+        assert!(rt; done.ending.is_done());
+        assert!(rt; !running::refused(run, 1u8).ending.is_done());
         assert_eq!(rt;
-            told(numbers::in_numbers(entry::ended(Err(refused)))),
-            [13, 0, 0]
+            told(numbers::in_numbers(entry::ended(Err(done)))),
+            [0, 0, 0]
         );
         assert_eq!(rt;
-            told(numbers::in_numbers(entry::ended(Err(after_event)))),
-            [7, 0, 4]
-        );
-        assert_eq!(rt;
-            told(numbers::in_numbers(entry::ended(Err(after_none)))),
-            [7, 0, 0]
-        );
-        assert_eq!(rt;
-            told(numbers::in_numbers(entry::ended(Err(stopped)))),
-            [0, 9, 0]
+            told(numbers::in_numbers(entry::ended(Err(by_status)))),
+            [0, 0, 0]
         );
     }
 
@@ -93,9 +104,9 @@ mod tests {
             event: 6,
         };
         let counted = entry::reply(running_call(), 5, Err(status));
-        let result = numbers::in_numbers(counted);
-        assert_eq!(rt; told(result), [3, 2, 6]);
-        assert_eq!(rt; result.count, 5);
+        let in_numbers = numbers::in_numbers(counted);
+        assert_eq!(rt; told(in_numbers), [3, 2, 6]);
+        assert_eq!(rt; in_numbers.count, 5);
         assert_eq!(rt; numbers::result_of(counted, 1, 2, 3, 4, 5).value, 5);
     }
 
@@ -103,5 +114,6 @@ mod tests {
     fn no_event_has_number_0(rt: HostRuntime) {
         assert_eq!(rt; numbers::event_number(None), 0);
         assert_eq!(rt; numbers::event_number(Some(Event::Value)), 6);
+        assert_eq!(rt; numbers::event_number(Event::Value), 6);
     }
 }

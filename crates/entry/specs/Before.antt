@@ -1,5 +1,5 @@
 -- What the tests before work and the turn of the moods come to, over the running call; and the replies.
-use Rattle.std.specs.Prelude.{ℕ, ◌*◌, Bool, not, ◌&&◌, ◌||◌, List, eqb, Result, Ok, Err}
+use Rattle.std.specs.Prelude.{ℕ, ◌*◌, Bool, false, not, ◌&&◌, ◌||◌, List, eqb, Result, Ok, Err}
 use Rattle.rules.specs.declared.Shape.{Shape}
 use Rattle.rules.specs.declared.Rights.{Rights}
 use Rattle.rules.specs.declared.Run.{Run}
@@ -50,6 +50,11 @@ abbrev pub given_reply : Result (Taken Given) EndedCall → Reply
 given_reply (Ok d) = reply_of d.run 0 (Ok d.value)
 given_reply (Err e) = reply_of e.run 0 (Err e.ending)
 
-abbrev pub ended_reply : {H : Type 0} → Result Run (code_ended.EndedCall H) → code_reply.Reply (Result Given H)
-ended_reply (Ok r) = reply_of r 0 (Ok Nothing)
-ended_reply (Err e) = reply_of e.run 0 (Err e.ending)
+-- of a call that goes on after all, done says, nothing more is told
+abbrev pub ended_reply_by : {H : Type 0} → (H → Bool) → Result Run (code_ended.EndedCall H) → code_reply.Reply (Result Given H)
+ended_reply_by done (Ok r) = reply_of r 0 (Ok Nothing)
+ended_reply_by done (Err e) = choose (done e.ending) (reply_of e.run 0 (Ok Nothing)) (reply_of e.run 0 (Err e.ending))
+
+-- the core's cases end the call
+abbrev pub ended_reply : Outcome → Reply
+ended_reply o = ended_reply_by (λ _. false) o

@@ -4,12 +4,13 @@
 ghost use Rattle.std.specs.Prelude.{◌≡◌, true, not, ◌&&◌, ◌≤◌, T, length};
 ghost use Rattle.rules.specs.Book.{state, lengths, run_with, before, legal, all_up_to, lengths_fit, some_right, in_bounds, shape_fits, book_fits, all_fits, moods_fit, word_fits, row_fits};
 ghost use Rattle.entry.specs.Sound.{flags_fit, sound, Lent, places_on, memory_tested, places_tested};
-ghost use Rattle.entry.specs.Before.{sizes_are, before_work, before_asking, may_do, turnable_by, turned_by, reply_of, refused_reply, given_reply, ended_reply};
+ghost use Rattle.entry.specs.Before.{sizes_are, before_work, before_asking, may_do, turnable_by, turned_by, reply_of, refused_reply, given_reply, ended_reply_by};
 
 use places::BookRef;
 use rules::{
     EndedCall, Ending, File, Given, Outcome, Position, Refusal, Reply, Rights, Run, Shape, Taken,
 };
+use running::{Ends, Tells};
 
 // The running call that a call begins with.
 pub fn start(file: File, end: Position) -> Run
@@ -393,7 +394,7 @@ pub fn reply<G>(run: Run, count: usize, given: G) -> Reply<G>
 }
 
 // A refusal, told by its case or by any number.
-pub fn refuse<R, S, E>(run: Run, refusal: R) -> Reply<Result<Given, Ending<R, S, E>>>
+pub fn refuse<R: Tells>(run: Run, refusal: R) -> Reply<Result<Given, Ending<R, R::Stop, R::Event>>>
     ensures { result ≡ refused_reply run refusal }
 {
     reply(run, 0, Err(Ending::Refused(refusal)))
@@ -409,12 +410,13 @@ pub fn given(found: Result<Taken<Given>, EndedCall>) -> Reply
     }
 }
 
-// A call that gives nothing but how it ended, which is told as the caller has it.
-pub fn ended<H>(outcome: Result<Run, EndedCall<H>>) -> Reply<Result<Given, H>>
-    ensures { result ≡ ended_reply outcome }
+// A call that gives nothing but how it ended. Where that says that it is done after all, as number 0 does, nothing more is told.
+pub fn ended<H: Ends>(outcome: Result<Run, EndedCall<H>>) -> Reply<Result<Given, H>>
+    ensures { result ≡ ended_reply_by H.is_done outcome }
 {
     match outcome {
         Ok(run) => reply(run, 0, Ok(Given::Nothing)),
+        Err(ended) if ended.ending.is_done() => reply(ended.run, 0, Ok(Given::Nothing)),
         Err(ended) => reply(ended.run, 0, Err(ended.ending)),
     }
 }

@@ -1,5 +1,5 @@
 -- What a call hands back in plain numbers, read as document 01's result; and where a line view lies.
-use Rattle.std.specs.Prelude.{ℕ, ◌≡◌, List, eqb, ℤ, nat_abs, Option, None, Some}
+use Rattle.std.specs.Prelude.{ℕ, ◌≡◌, Bool, ◌&&◌, List, eqb, ℤ, nat_abs, Option, None, Some}
 use Rattle.rules.specs.declared.Position.{Position}
 use Rattle.rules.specs.declared.File.{File}
 use Rattle.rules.specs.declared.Given.{Given}
@@ -45,6 +45,10 @@ status_of number stop event = record { number = number; stop = stop; event = eve
 
 abbrev pub status_means : Status → Position → Ending
 status_means s x = record { number = s.number; stop = s.stop; told = told_in s.event x }
+
+-- number 0 and stop 0: "done"
+abbrev pub status_is_0 : Status → Bool
+status_is_0 s = eqb s.number 0 && eqb s.stop 0
 
 -- the same of an ending whose refusal, event or stop is told by its number
 abbrev pub number_means : code_ending.Ending ℕ ℕ ℕ → Position → Ending

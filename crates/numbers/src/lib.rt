@@ -1,12 +1,13 @@
 // What a call hands back in plain numbers, for a caller that can be handed no enum: the C interface.
 #![tactic(auto)]
 
-ghost use Rattle.std.specs.Prelude.{◌≡◌};
+ghost use Rattle.std.specs.Prelude.{◌≡◌, ℕ};
 ghost use Rattle.rules.specs.declared.Position.{Position};
-ghost use Rattle.rules.specs.Step.{Ending, ending_as};
-ghost use Rattle.numbers.specs.Numbers.{number_or_none, status_of, status_means, number_means, Says, result_of, InNumbersBy};
+ghost use Rattle.rules.specs.Step.{Ending, event_number, ending_as};
+ghost use Rattle.numbers.specs.Numbers.{number_or_none, status_of, status_means, status_is_0, number_means, Says, result_of, InNumbersBy};
 
 use rules::{Ending, Event, Given, Position, Reply};
+use running::Ends;
 
 // What a call hands back beside the record, document 01's "result": its number and stop; what it gives, 0 for nothing, 1 for a
 // character, 2 for an integer, and its value, 0 for nothing; the event that a refusal ended in, 0 for none; the events signalled, the
@@ -35,9 +36,58 @@ pub struct Status {
     pub event: u8,
 }
 
-// How a call ended, as the core tells it by cases or another caller by numbers of its own.
+impl Ends for Status {
+    ghost is_done = { status_is_0 };
+
+    fn is_done(self) -> bool {
+        self.number == 0 && self.stop == 0
+    }
+}
+
+// An event, or none, as it is told by its number.
+pub trait EventOrNone {
+    ghost number: { Self → ℕ };
+
+    fn number(self) -> u8
+        ensures { result ≡ number self };
+}
+
+impl EventOrNone for Event {
+    ghost number = { event_number };
+
+    fn number(self) -> u8 {
+        match self {
+            Event::LogicalEnd => 1,
+            Event::PhysicalEnd => 2,
+            Event::PageEnd => 3,
+            Event::LineEnd => 4,
+            Event::Character => 5,
+            Event::Value => 6,
+        }
+    }
+}
+
+impl EventOrNone for Option<Event> {
+    ghost number = { number_or_none };
+
+    fn number(self) -> u8 {
+        match self {
+            None => 0,
+            Some(event) => event.number(),
+        }
+    }
+}
+
+// The number of an event, 0 where none is told.
+pub fn event_number<E: EventOrNone>(event: E) -> u8
+    ensures { result ≡ E.number event }
+{
+    event.number()
+}
+
+// How a call ended, told by cases or by numbers: what tells it says its meaning, and a status that has it.
 pub trait TellsEnding: Copy {
-    // What it means, with the record left at a position.
+    // With the record left at a position.
     ghost means: { Self → Position → Ending };
 
     fn status(self) -> Status
@@ -48,7 +98,7 @@ impl TellsEnding for Status {
     ghost means = { status_means };
 
     fn status(self) -> Status {
-        self
+        status_of(self.number, self.stop, self.event)
     }
 }
 
@@ -71,30 +121,15 @@ impl TellsEnding for Ending {
         match self {
             Ending::Refused(refusal) => status_of(refusal.number(), 0, 0),
             Ending::RefusedAt(event, refusal) => {
-                status_of(refusal.number(), 0, event_number(Some(event)))
+                status_of(refusal.number(), 0, event_number(event))
             }
             Ending::Stopped(stop) => status_of(0, stop.number(), 0),
         }
     }
 }
 
-// The number of an event, 0 where none is told.
-pub fn event_number(event: Option<Event>) -> u8
-    ensures { result ≡ number_or_none event }
-{
-    match event {
-        None => 0,
-        Some(Event::LogicalEnd) => 1,
-        Some(Event::PhysicalEnd) => 2,
-        Some(Event::PageEnd) => 3,
-        Some(Event::LineEnd) => 4,
-        Some(Event::Character) => 5,
-        Some(Event::Value) => 6,
-    }
-}
-
 // A status of these numbers.
-pub fn status_of(number: u8, stop: u8, event: u8) -> Status
+fn status_of(number: u8, stop: u8, event: u8) -> Status
     ensures { result ≡ status_of number stop event }
 {
     Status {

@@ -425,9 +425,9 @@ run (k ∷ ks) f b =
 -- ---- the code's reply, as what a call hands back and leaves
 
 -- ending and value of what is given, or of how the call ended, with the record left at x; m says what such an ending means
-abbrev pub ending_by : {H : Type 0} → (H → Position → Ending) → OrEnded Given H → Position → Ending
-ending_by m (Ok given) x = finished
-ending_by m (Err e) x = m e x
+abbrev pub ending_meant : {H : Type 0} → (H → Position → Ending) → OrEnded Given H → Position → Ending
+ending_meant m (Ok given) x = finished
+ending_meant m (Err e) x = m e x
 
 abbrev pub value_of : Given → Value
 value_of Nothing = nothing
@@ -441,7 +441,7 @@ value_given (Err e) = nothing
 -- with the lent output and the book's lists at exit
 abbrev pub after_by : {H : Type 0} → (H → Position → Ending) → code_reply.Reply (OrEnded Given H) → List ℕ → List ℕ → List ℕ → List ℕ → After
 after_by m r buffer t l p = record {
-  result = record { ending = ending_by m r.given r.file.position; events = r.events; taken = r.taken; count = r.count; value = value_given r.given; buffer = buffer };
+  result = record { ending = ending_meant m r.given r.file.position; events = r.events; taken = r.taken; count = r.count; value = value_given r.given; buffer = buffer };
   file = r.file;
   book = book t l p r.end;
 }
@@ -451,7 +451,7 @@ abbrev pub Reply : Type 0
 Reply = code_reply.Reply (OrEnding Given)
 
 abbrev pub ending_of : OrEnding Given → Position → Ending
-ending_of given x = ending_by ending_as given x
+ending_of given x = ending_meant ending_as given x
 
 abbrev pub after : Reply → List ℕ → List ℕ → List ℕ → List ℕ → After
 after r buffer t l p = after_by ending_as r buffer t l p

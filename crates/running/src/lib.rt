@@ -1,11 +1,11 @@
 // Changes of the running call, the endings of a step, and the words of an answer row. Nothing here signals an event.
 #![tactic(auto)]
 
-ghost use Rattle.std.specs.Prelude.{◌≡◌, ◌&&◌, ◌<◌, ◌^◌};
+ghost use Rattle.std.specs.Prelude.{◌≡◌, ◌&&◌, ◌<◌, ◌^◌, Bool, false};
 ghost use Rattle.rules.specs.Book.{place, moved_to, both_moved_to, in_mood, next_word, signalled_by, kind_of, page_of, line_of, character_of, place_of, mending_of, answer_of, suggested};
 ghost use Rattle.rules.specs.Step.{event_as, mending_as, answer_as, refusal_number, refused_by, refused_at, stopped_by};
 ghost use Rattle.rules.specs.Steps.{file_end, file_end_number};
-ghost use Rattle.running.specs.Outcomes.{backspaced_by, reset_by};
+ghost use Rattle.running.specs.Outcomes.{number_is_0, backspaced_by, reset_by};
 
 use rules::{Answer, EndedCall, Ending, Event, Mending, Outcome, Position, Refusal, Run, Stop};
 
@@ -45,8 +45,41 @@ pub fn in_mood(run: Run, reading: bool) -> Run
     r
 }
 
-// A call that is refused. This and the next two end it with what they are given, a case or any number, as it stands.
-pub fn refused<R, S, E>(run: Run, refusal: R) -> EndedCall<Ending<R, S, E>>
+// What tells why a call ended: a case of the core's, or a number, any of them. With a refusal so told go a stop and an event told alike.
+pub trait Tells {
+    type Refusal;
+
+    type Stop;
+
+    type Event;
+}
+
+impl Tells for Refusal {
+    type Refusal = Refusal;
+
+    type Stop = Stop;
+
+    type Event = Event;
+}
+
+impl Tells for Stop {
+    type Refusal = Refusal;
+
+    type Stop = Stop;
+
+    type Event = Event;
+}
+
+impl Tells for u8 {
+    type Refusal = u8;
+
+    type Stop = u8;
+
+    type Event = u8;
+}
+
+// A call that is refused.
+pub fn refused<R: Tells>(run: Run, refusal: R) -> EndedCall<Ending<R, R::Stop, R::Event>>
     ensures { result ≡ refused_by run refusal }
 {
     let ending = Ending::Refused(refusal);
@@ -54,7 +87,11 @@ pub fn refused<R, S, E>(run: Run, refusal: R) -> EndedCall<Ending<R, S, E>>
 }
 
 // The same right after an event, which the refusal ends in.
-pub fn refused_at<R, S, E>(run: Run, event: E, refusal: R) -> EndedCall<Ending<R, S, E>>
+pub fn refused_at<R: Tells>(
+    run: Run,
+    event: R::Event,
+    refusal: R,
+) -> EndedCall<Ending<R, R::Stop, R::Event>>
     ensures { result ≡ refused_at run event refusal }
 {
     let ending = Ending::RefusedAt(event, refusal);
@@ -62,11 +99,40 @@ pub fn refused_at<R, S, E>(run: Run, event: E, refusal: R) -> EndedCall<Ending<R
 }
 
 // A string that is stopped.
-pub fn stopped<R, S, E>(run: Run, stop: S) -> EndedCall<Ending<R, S, E>>
+pub fn stopped<S: Tells>(run: Run, stop: S) -> EndedCall<Ending<S::Refusal, S, S::Event>>
     ensures { result ≡ stopped_by run stop }
 {
     let ending = Ending::Stopped(stop);
     EndedCall { run, ending }
+}
+
+// How a step left the call: a step that tells number 0 and stop 0 is done, and the call goes on.
+pub trait Ends: Copy {
+    ghost is_done: { Self → Bool };
+
+    fn is_done(self) -> bool
+        ensures { result ≡ is_done self };
+}
+
+// No case has number 0.
+impl Ends for Ending {
+    ghost is_done = { λ _. false };
+
+    fn is_done(self) -> bool {
+        false
+    }
+}
+
+impl Ends for Ending<u8, u8, u8> {
+    ghost is_done = { number_is_0 };
+
+    fn is_done(self) -> bool {
+        match self {
+            Ending::Refused(number) => number == 0,
+            Ending::RefusedAt(_, number) => number == 0,
+            Ending::Stopped(stop) => stop == 0,
+        }
+    }
 }
 
 // Whether a step belongs to a string that is got: its ends are stops.
