@@ -3,8 +3,8 @@
 
 #[cfg(test)]
 mod tests {
-    use numbers::{CallResult, Status};
-    use rules::{EndedCall, Event, File, Position, Rights, Run, Shape};
+    use numbers::CallResult;
+    use rules::{EndedCall, Event, File, Position, Rights, Run, Shape, Status};
     use running::Ends;
 
     fn running_call() -> Run {
@@ -61,8 +61,14 @@ mod tests {
     fn any_number_ends_a_call(rt: HostRuntime) {
         let run = running_call();
         let refused = numbers::in_numbers(entry::ended(Err(running::refused(run, 13u8))));
-        let after_event = numbers::in_numbers(entry::ended(Err(running::refused_at(run, 4, 7u8))));
-        let after_none = numbers::in_numbers(entry::ended(Err(running::refused_at(run, 0, 7u8))));
+        let after_event = numbers::in_numbers(entry::ended(Err(running::refused_at(
+            run,
+            Some(Event::LineEnd),
+            7u8,
+        ))));
+        let after_none = numbers::in_numbers(entry::ended(Err(running::refused_at(
+            run, None, 7u8,
+        ))));
         let stopped = numbers::in_numbers(entry::ended(Err(running::stopped(run, 9u8))));
         assert_eq!(rt; told(refused), [13, 0, 0]);
         assert_eq!(rt; told(after_event), [7, 0, 4]);
@@ -74,11 +80,11 @@ mod tests {
     #[test]
     fn a_step_that_is_done_tells_nothing_more(rt: HostRuntime) {
         let run = running_call();
-        let done = running::refused_at(run, 4, 0u8);
+        let done = running::refused_at(run, Some(Event::LineEnd), 0u8);
         let status = Status {
             number: 0,
             stop: 0,
-            event: 4,
+            event: Some(Event::LineEnd),
         };
         let by_status = EndedCall {
             run: run,
@@ -101,7 +107,7 @@ mod tests {
         let status = Status {
             number: 3,
             stop: 2,
-            event: 6,
+            event: Some(Event::Value),
         };
         let counted = entry::reply(running_call(), 5, Err(status));
         let in_numbers = numbers::in_numbers(counted);

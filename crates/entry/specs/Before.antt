@@ -5,7 +5,6 @@ use Rattle.rules.specs.declared.Rights.{Rights}
 use Rattle.rules.specs.declared.Run.{Run}
 use Rattle.rules.specs.declared.Refusal.{Refusal}
 use Rattle.rules.specs.declared.Refusal.TheVariants.{NotOpen, BadAnswers, BadBook, RightMissing, MoodMissing}
-use Rattle.rules.specs.declared.Ending as code_ending
 use Rattle.rules.specs.declared.Ending.TheVariants.{Refused}
 use Rattle.rules.specs.declared.EndedCall as code_ended
 use Rattle.rules.specs.declared.Reply as code_reply
@@ -40,21 +39,21 @@ turnable_by reading r = r.file.rights.«set» || not (choose reading r.file.writ
 abbrev pub turned_by : Bool → Run → Outcome
 turned_by reading r = choose (may_do reading r.file.rights) (choose (turnable_by reading r) (done_by (in_mood r reading)) (Err (refused_by r MoodMissing))) (Err (refused_by r RightMissing))
 
-abbrev pub reply_of : {G : Type 0} → Run → ℕ → G → code_reply.Reply G
+abbrev pub reply_of : {H : Type 0} → Run → ℕ → Result Given H → code_reply.Reply H
 reply_of r count given = record { file = r.file; end = r.end; events = r.events; taken = r.taken; count = count; given = given }
 
-abbrev pub refused_reply : {R S E : Type 0} → Run → R → code_reply.Reply (Result Given (code_ending.Ending R S E))
+abbrev pub refused_reply : Run → Refusal → Reply
 refused_reply r n = reply_of r 0 (Err (Refused n))
 
 abbrev pub given_reply : Result (Taken Given) EndedCall → Reply
 given_reply (Ok d) = reply_of d.run 0 (Ok d.value)
 given_reply (Err e) = reply_of e.run 0 (Err e.ending)
 
--- of a call that goes on after all, done says, nothing more is told
-abbrev pub ended_reply_by : {H : Type 0} → (H → Bool) → Result Run (code_ended.EndedCall H) → code_reply.Reply (Result Given H)
+-- where done says of an ending that the call is done after all, nothing more is told
+abbrev pub ended_reply_by : {H : Type 0} → (H → Bool) → Result Run (code_ended.EndedCall H) → code_reply.Reply H
 ended_reply_by done (Ok r) = reply_of r 0 (Ok Nothing)
 ended_reply_by done (Err e) = choose (done e.ending) (reply_of e.run 0 (Ok Nothing)) (reply_of e.run 0 (Err e.ending))
 
--- the core's cases end the call
+-- an ending by its case ends the call
 abbrev pub ended_reply : Outcome → Reply
 ended_reply o = ended_reply_by (λ _. false) o

@@ -1,16 +1,14 @@
 // What every call begins and ends with: the tests before work, the turn of the moods, and the reply.
 #![tactic(auto)]
 
-ghost use Rattle.std.specs.Prelude.{◌≡◌, true, not, ◌&&◌, ◌≤◌, T, length};
+ghost use Rattle.std.specs.Prelude.{◌≡◌, true, not, ◌&&◌, ◌≤◌, T, length, Err};
 ghost use Rattle.rules.specs.Book.{state, lengths, run_with, before, legal, all_up_to, lengths_fit, some_right, in_bounds, shape_fits, book_fits, all_fits, moods_fit, word_fits, row_fits};
 ghost use Rattle.entry.specs.Sound.{flags_fit, sound, Lent, places_on, memory_tested, places_tested};
-ghost use Rattle.entry.specs.Before.{sizes_are, before_work, before_asking, may_do, turnable_by, turned_by, reply_of, refused_reply, given_reply, ended_reply_by};
+ghost use Rattle.entry.specs.Before.{sizes_are, before_work, before_asking, may_do, turnable_by, turned_by, reply_of, given_reply, ended_reply_by};
 
 use places::BookRef;
-use rules::{
-    EndedCall, Ending, File, Given, Outcome, Position, Refusal, Reply, Rights, Run, Shape, Taken,
-};
-use running::{Ends, Tells};
+use rules::{EndedCall, File, Given, Outcome, Position, Refusal, Reply, Rights, Run, Shape, Taken};
+use running::{Ends, TellsRefusal};
 
 // The running call that a call begins with.
 pub fn start(file: File, end: Position) -> Run
@@ -378,7 +376,7 @@ pub fn turned(run: Run, reading: bool) -> Outcome
 }
 
 // All that a call hands back by value.
-pub fn reply<G>(run: Run, count: usize, given: G) -> Reply<G>
+pub fn reply<H>(run: Run, count: usize, given: Result<Given, H>) -> Reply<H>
     ensures { result ≡ reply_of run count given }
 {
     let file = run.file;
@@ -394,10 +392,10 @@ pub fn reply<G>(run: Run, count: usize, given: G) -> Reply<G>
 }
 
 // A refusal, told by its case or by any number.
-pub fn refuse<R: Tells>(run: Run, refusal: R) -> Reply<Result<Given, Ending<R, R::Stop, R::Event>>>
-    ensures { result ≡ refused_reply run refusal }
+pub fn refuse<R: TellsRefusal>(run: Run, refusal: R) -> Reply<R::Ending>
+    ensures { result ≡ reply_of run 0 (Err (R.refused refusal)) }
 {
-    reply(run, 0, Err(Ending::Refused(refusal)))
+    reply(run, 0, Err(refusal.refused()))
 }
 
 // A call that may give a character or an integer.
@@ -410,8 +408,8 @@ pub fn given(found: Result<Taken<Given>, EndedCall>) -> Reply
     }
 }
 
-// A call that gives nothing but how it ended. Where that says that it is done after all, as number 0 does, nothing more is told.
-pub fn ended<H: Ends>(outcome: Result<Run, EndedCall<H>>) -> Reply<Result<Given, H>>
+// A call that gives nothing but how it ended. Where a status says that it is done after all, nothing more is told.
+pub fn ended<H: Ends>(outcome: Result<Run, EndedCall<H>>) -> Reply<H>
     ensures { result ≡ ended_reply_by H.is_done outcome }
 {
     match outcome {

@@ -9,11 +9,12 @@ use lib.Seq.{length-take-le}
 use Rattle.rules.specs.declared.Position.{Position}
 use Rattle.rules.specs.declared.File.{File}
 use Rattle.rules.specs.declared.Run.{Run}
+use Rattle.rules.specs.declared.Ending as code_ending
 use Rattle.rules.specs.declared.Taken.{Taken}
 use Rattle.std.specs.Prelude.{Result, Ok, Err, IsErrAnd}
 use Rattle.rules.specs.declared.Given.{Given}
 use Rattle.rules.specs.Book.{State, state, run_with}
-use Rattle.rules.specs.Step.{Outcome, Ending, ended_by, ended_with, Out, done, ends, Step, ◌>>◌, pure, EndedCall, EndingCase}
+use Rattle.rules.specs.Step.{Outcome, Ending, ended_by, ended_with, Out, done, ends, Step, ◌>>◌, pure, EndedCall}
 use Rattle.rules.specs.Steps.{good_line, execute}
 use Rattle.rules.specs.Calls.{Value, a_character, a_string, begin, need_row, getting, take_character, getting_character, get_characters, getting_string, take_integer, getting_integer, leave, after, book, call, work, asking_work, buffer_of, asking, gets_character, gets_string, gets_integer, Reply}
 use Rattle.laws.specs.Given.{given_out}
@@ -69,7 +70,7 @@ module _ (row : List ℕ) (file : File) (end : Position) (t l p : List ℕ) {r :
     string_refused e q = call_refused buffer _ t l p (get_characters row terminators (length buffer) []) (get_from (get_characters row terminators (length buffer) [])) e q
 
     -- the output is what was delivered, and untouched past it
-    pub string_got : {x : Run} → o ≡ Ok x → (y : Run) (a : EndingCase) (n : ℕ) (output t' l' p' : List ℕ)
+    pub string_got : {x : Run} → o ≡ Ok x → (y : Run) (a : code_ending.Ending) (n : ℕ) (output t' l' p' : List ℕ)
         → get_characters row terminators (length buffer) [] (state x l p) t ≡ done (a_string (take n output) (ended_by (ended_with y a))) (state y l' p') t' → n ≤ length buffer → drop n output ≡ drop n buffer → length output ≡ length buffer
         → {reply : Reply} → reply ≡ reply_of y n (Err a) → after reply output t' l' p' ≡ call (asking (gets_string terminators buffer) row) file (book t l p end)
     unfolding call work asking_work buffer_of getting_string leave

@@ -16,6 +16,7 @@ use borrow.Author.Tests.{le-leb, lt-leb, leb-true, leb-false}
 use Rattle.rules.specs.declared.Run.{Run}
 use Rattle.rules.specs.declared.Event.TheVariants as code
 use Rattle.rules.specs.declared.Position.{Position}
+use Rattle.rules.specs.declared.Ending as code_ending
 use Rattle.rules.specs.declared.Ending.TheVariants.{Refused, RefusedAt, Stopped}
 use Rattle.rules.specs.declared.Refusal.TheVariants.{BadCharacter}
 use Rattle.rules.specs.declared.Stop.{Stop}
@@ -25,7 +26,7 @@ use Rattle.rules.specs.declared.Given.{Given}
 use Rattle.std.specs.Prelude.{Result, Err, IsErrAnd}
 use Rattle.laws.specs.Given.{given_out}
 use Rattle.rules.specs.Book.{choose, within, next_character, character_index, State, state, on_run, here, shape_of, moved_to, row_fits, Event}
-use Rattle.rules.specs.Step.{Ending, Out, done, ends, ◌>>=◌, pure, refusal_at, ended_by, ending_as, stop_number, outcome_giving, refused_at, EndedCall, EndingCase}
+use Rattle.rules.specs.Step.{Ending, Out, done, ends, ◌>>=◌, pure, refusal_at, ended_by, ending_as, stop_number, outcome_giving, refused_at, EndedCall}
 use Rattle.rules.specs.Steps.{is_stop, good_line, pass_blanks, more_digits, digit, character_event, measure, execute}
 use Rattle.rules.specs.Ready.{Ready, Valid}
 use Rattle.laws.specs.Capped.{capped, with_cap}
@@ -129,7 +130,7 @@ a_stop LineOver = refl
 a_stop EndReached = refl
 a_stop OutputFull = refl
 
-no_stop : (e : EndingCase) (x : Position) → ((s : Stop) → e ≡ Stopped s → ⊥) → is_stop (ending_as e x) ≡ false
+no_stop : (e : code_ending.Ending) (x : Position) → ((s : Stop) → e ≡ Stopped s → ⊥) → is_stop (ending_as e x) ≡ false
 no_stop (Refused r) x n = refl
 no_stop (RefusedAt event r) x n = refl
 no_stop (Stopped s) x n = absurd (n s refl)
@@ -157,7 +158,7 @@ module _ {row : List ℕ} {first : ℕ} {s₀ : State} {t₀ : List ℕ} {value 
 
     pub summing_stops : {x : Stop} → d.ending ≡ Stopped x → done value (state d.run l p) t' ≡ with_cap (execute row (more_digits first) s₀ t₀)
     summing_stops {x} z = ap (λ (n : ℕ). done n (state d.run l p) t') m.value_is
-        ∙ sym (ap with_cap (m.same ∙ more_stops row m.exact s t m.ready f (ap (λ (e : EndingCase). is_stop (ending_as e d.run.file.position)) z ∙ a_stop x)))
+        ∙ sym (ap with_cap (m.same ∙ more_stops row m.exact s t m.ready f (ap (λ (e : code_ending.Ending). is_stop (ending_as e d.run.file.position)) z ∙ a_stop x)))
 
   module _ {b : State} {t₁ : List ℕ} (f : execute row (good_line true true) s t ≡ done tt b t₁) {c : ℕ} (e : c ≡ get_or t₁ (character_index (shape_of b) (here b)) 0) where
     pub summing_valid : Valid b

@@ -1,16 +1,13 @@
 -- What a call hands back in plain numbers, read as document 01's result; and where a line view lies.
-use Rattle.std.specs.Prelude.{ℕ, ◌≡◌, Bool, ◌&&◌, List, eqb, ℤ, nat_abs, Option, None, Some}
+use Rattle.std.specs.Prelude.{ℕ, ◌≡◌, List, eqb, ℤ, nat_abs, Option, None, Some}
 use Rattle.rules.specs.declared.Position.{Position}
 use Rattle.rules.specs.declared.File.{File}
-use Rattle.rules.specs.declared.Given.{Given}
 use Rattle.rules.specs.declared.Event as code
-use Rattle.rules.specs.declared.Ending as code_ending
-use Rattle.rules.specs.declared.Ending.TheVariants.{Refused, RefusedAt, Stopped}
+use Rattle.rules.specs.declared.Status.{Status}
 use Rattle.rules.specs.declared.Reply as code_reply
 use Rattle.rules.specs.Book.{choose, Event, logical_end, physical_end, page_end, line_end}
-use Rattle.rules.specs.Step.{Told, none, signalled, Ending, refusal, stopped, event_number, ending_as, OrEnded}
+use Rattle.rules.specs.Step.{Told, none, signalled, Ending, event_number, ending_as, status_as}
 use Rattle.rules.specs.Calls.{Value, nothing, a_character, an_integer, After, after_by, book, Reply}
-use Rattle.numbers.specs.declared.Status.{Status}
 use Rattle.numbers.specs.declared.CallResult.{CallResult}
 
 -- what is given, by its number: 1 a character, 2 an integer, any other nothing
@@ -39,33 +36,16 @@ abbrev pub number_or_none : Option code.Event → ℕ
 number_or_none None = 0
 number_or_none (Some event) = event_number event
 
--- how a call ended, by its numbers, and what they mean with the record left at x
-abbrev pub status_of : ℕ → ℕ → ℕ → Status
-status_of number stop event = record { number = number; stop = stop; event = event }
-
-abbrev pub status_means : Status → Position → Ending
-status_means s x = record { number = s.number; stop = s.stop; told = told_in s.event x }
-
--- number 0 and stop 0: "done"
-abbrev pub status_is_0 : Status → Bool
-status_is_0 s = eqb s.number 0 && eqb s.stop 0
-
--- the same of an ending whose refusal, event or stop is told by its number
-abbrev pub number_means : code_ending.Ending ℕ ℕ ℕ → Position → Ending
-number_means (Refused n) x = refusal n
-number_means (RefusedAt event n) x = record { number = n; stop = 0; told = told_in event x }
-number_means (Stopped s) x = stopped s
-
--- numbers that say what was meant, wherever the record is left
-pub record Says (s : Status) (meant : Position → Ending) : Type 0 where
-  pub says : (x : Position) → status_means s x ≡ meant x
+-- a status that says what was meant, wherever the record is left
+pub record Says (e : Status) (meant : Position → Ending) : Type 0 where
+  pub says : (x : Position) → status_as e x ≡ meant x
 
 -- a reply in numbers: the record is left where its event was signalled
-abbrev pub result_of : {G : Type 0} → code_reply.Reply G → ℕ → ℕ → ℕ → ℕ → ℤ → CallResult
+abbrev pub result_of : {H : Type 0} → code_reply.Reply H → ℕ → ℕ → ℕ → ℕ → ℤ → CallResult
 result_of r number stop event given value = record { number = number; stop = stop; given = given; event = event; value = value; events = r.events; taken = r.taken; count = r.count; end = r.end; signalled = r.file.position }
 
 -- a record and a result that say what a reply says, whatever the call lent; m says what its ending means
-pub record InNumbersBy {H : Type 0} (m : H → Position → Ending) (reply : code_reply.Reply (OrEnded Given H)) (file : File) (x : CallResult) : Type 0 where
+pub record InNumbersBy {H : Type 0} (m : H → Position → Ending) (reply : code_reply.Reply H) (file : File) (x : CallResult) : Type 0 where
   pub reads : (buffer t l p : List ℕ) → after_numbers file x buffer t l p ≡ after_by m reply buffer t l p
 
 -- of what the core's calls hand back

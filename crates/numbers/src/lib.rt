@@ -3,11 +3,10 @@
 
 ghost use Rattle.std.specs.Prelude.{◌≡◌, ℕ};
 ghost use Rattle.rules.specs.declared.Position.{Position};
-ghost use Rattle.rules.specs.Step.{Ending, event_number, ending_as};
-ghost use Rattle.numbers.specs.Numbers.{number_or_none, status_of, status_means, status_is_0, number_means, Says, result_of, InNumbersBy};
+ghost use Rattle.rules.specs.Step.{Ending, event_number, ending_as, status_as};
+ghost use Rattle.numbers.specs.Numbers.{number_or_none, Says, result_of, InNumbersBy};
 
-use rules::{Ending, Event, Given, Position, Reply};
-use running::Ends;
+use rules::{Ending, Event, Given, Position, Reply, Status};
 
 // What a call hands back beside the record, document 01's "result": its number and stop; what it gives, 0 for nothing, 1 for a
 // character, 2 for an integer, and its value, 0 for nothing; the event that a refusal ended in, 0 for none; the events signalled, the
@@ -26,22 +25,6 @@ pub struct CallResult {
     pub count: usize,
     pub end: Position,
     pub signalled: Position,
-}
-
-// How a call ended, in numbers: that of its refusal, the stop of its string, and that of the event that it ended in; 0 is none.
-#[derive(Clone, Copy)]
-pub struct Status {
-    pub number: u8,
-    pub stop: u8,
-    pub event: u8,
-}
-
-impl Ends for Status {
-    ghost is_done = { status_is_0 };
-
-    fn is_done(self) -> bool {
-        self.number == 0 && self.stop == 0
-    }
 }
 
 // An event, or none, as it is told by its number.
@@ -85,7 +68,7 @@ pub fn event_number<E: EventOrNone>(event: E) -> u8
     event.number()
 }
 
-// How a call ended, told by cases or by numbers: what tells it says its meaning, and a status that has it.
+// How a call ended, by its case or in numbers: what it means, and a status that says it.
 pub trait TellsEnding: Copy {
     // With the record left at a position.
     ghost means: { Self → Position → Ending };
@@ -95,22 +78,10 @@ pub trait TellsEnding: Copy {
 }
 
 impl TellsEnding for Status {
-    ghost means = { status_means };
+    ghost means = { status_as };
 
     fn status(self) -> Status {
-        status_of(self.number, self.stop, self.event)
-    }
-}
-
-impl TellsEnding for Ending<u8, u8, u8> {
-    ghost means = { number_means };
-
-    fn status(self) -> Status {
-        match self {
-            Ending::Refused(number) => status_of(number, 0, 0),
-            Ending::RefusedAt(event, number) => status_of(number, 0, event),
-            Ending::Stopped(stop) => status_of(0, stop, 0),
-        }
+        self
     }
 }
 
@@ -119,29 +90,16 @@ impl TellsEnding for Ending {
 
     fn status(self) -> Status {
         match self {
-            Ending::Refused(refusal) => status_of(refusal.number(), 0, 0),
-            Ending::RefusedAt(event, refusal) => {
-                status_of(refusal.number(), 0, event_number(event))
-            }
-            Ending::Stopped(stop) => status_of(0, stop.number(), 0),
+            Ending::Refused(refusal) => Status::new(refusal.number(), 0, None),
+            Ending::RefusedAt(event, refusal) => Status::new(refusal.number(), 0, Some(event)),
+            Ending::Stopped(stop) => Status::new(0, stop.number(), None),
         }
     }
 }
 
-// A status of these numbers.
-fn status_of(number: u8, stop: u8, event: u8) -> Status
-    ensures { result ≡ status_of number stop event }
-{
-    Status {
-        number,
-        stop,
-        event,
-    }
-}
-
 // A reply in numbers, with its number, stop and event, and what it gives.
-pub fn result_of<G: Drop>(
-    reply: Reply<G>,
+pub fn result_of<H: Drop>(
+    reply: Reply<H>,
     number: u8,
     stop: u8,
     event: u8,
@@ -166,7 +124,7 @@ pub fn result_of<G: Drop>(
 
 // A reply in numbers. It is part of each caller, so that no reply is copied.
 #[inline(always)]
-pub fn in_numbers<H: TellsEnding>(reply: Reply<Result<Given, H>>) -> CallResult
+pub fn in_numbers<H: TellsEnding>(reply: Reply<H>) -> CallResult
     ensures { InNumbersBy H.means reply reply.file result }
 {
     match reply.given {
@@ -175,7 +133,8 @@ pub fn in_numbers<H: TellsEnding>(reply: Reply<Result<Given, H>>) -> CallResult
         Ok(Given::Integer(v)) => result_of(reply, 0, 0, 0, 2, v),
         Err(ending) => {
             let status = ending.status();
-            result_of(reply, status.number, status.stop, status.event, 0, 0)
+            let told = event_number(status.event);
+            result_of(reply, status.number, status.stop, told, 0, 0)
         }
     }
 }

@@ -5,6 +5,7 @@ use Rattle.rules.specs.declared.Position.{Position}
 use Rattle.rules.specs.declared.File.{File}
 use Rattle.rules.specs.declared.Given.{Given}
 use Rattle.rules.specs.declared.Given.TheVariants.{Nothing, Character, Integer}
+use Rattle.rules.specs.declared.Ending as code_ending
 use Rattle.rules.specs.declared.Reply as code_reply
 use Rattle.rules.specs.Book.{choose, place, before, within, page_length, line_length, character_index, State, state, here, end_of, shape_of, rights_of, file_as, file_choosing, file_opened, run_with, with_file, rewound, row_fits, shape_fits, book_fits, all_fits, Event}
 use Rattle.rules.specs.Step.{Ending, refusal_at, ending_as, OrEnded, OrEnding, Out, done, ends, Step, ◌>>=◌, ◌>>◌, pure, halt, refuse_at, stopped, finished, attempt, look, change, change_run, branch, test, need, again, pass, mood_on, backspace, reset, character_here, size}
@@ -439,7 +440,7 @@ value_given (Ok given) = value_of given
 value_given (Err e) = nothing
 
 -- with the lent output and the book's lists at exit
-abbrev pub after_by : {H : Type 0} → (H → Position → Ending) → code_reply.Reply (OrEnded Given H) → List ℕ → List ℕ → List ℕ → List ℕ → After
+abbrev pub after_by : {H : Type 0} → (H → Position → Ending) → code_reply.Reply H → List ℕ → List ℕ → List ℕ → List ℕ → After
 after_by m r buffer t l p = record {
   result = record { ending = ending_meant m r.given r.file.position; events = r.events; taken = r.taken; count = r.count; value = value_given r.given; buffer = buffer };
   file = r.file;
@@ -448,7 +449,7 @@ after_by m r buffer t l p = record {
 
 -- the same of what the core's calls hand back
 abbrev pub Reply : Type 0
-Reply = code_reply.Reply (OrEnding Given)
+Reply = code_reply.Reply code_ending.Ending
 
 abbrev pub ending_of : OrEnding Given → Position → Ending
 ending_of given x = ending_meant ending_as given x

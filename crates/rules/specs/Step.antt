@@ -1,6 +1,6 @@
 -- What a step is, how steps follow each other, and the steps that signal no event. Sentences of document 01 stand in quotation
 -- marks. Assumes nothing: these are definitions.
-use Rattle.std.specs.Prelude.{ℕ, zero, suc, ◌+◌, ◌-◌, Bool, true, false, not, ◌&&◌, List, ◌++◌, length, get_or, set, take, replicate, ltb, eqb, Result, Ok, Err}
+use Rattle.std.specs.Prelude.{ℕ, zero, suc, ◌+◌, ◌-◌, Bool, true, false, not, ◌&&◌, List, ◌++◌, length, get_or, set, take, replicate, ltb, eqb, Option, None, Some, Result, Ok, Err}
 use Rattle.rules.specs.declared.Position.{Position}
 use Rattle.rules.specs.declared.Shape.{Shape}
 use Rattle.rules.specs.declared.Rights.{Rights}
@@ -17,6 +17,7 @@ use Rattle.rules.specs.declared.Stop.{Stop}
 use Rattle.rules.specs.declared.Stop.TheVariants.{Terminator, LineOver, EndReached, OutputFull}
 use Rattle.rules.specs.declared.Ending as code_ending
 use Rattle.rules.specs.declared.Ending.TheVariants.{Refused, RefusedAt, Stopped}
+use Rattle.rules.specs.declared.Status.{Status}
 use Rattle.rules.specs.declared.EndedCall as code_ended
 use Rattle.rules.specs.declared.Taken.{Taken}
 use Rattle.rules.specs.Book.{choose, place, before, next_character, previous_character, next_line, next_page, Lengths, lengths, page_length, line_index, line_length, character_index, State, state, on_run, with_lengths, here, end_of, shape_of, rights_of, page_here, line_here, with_file, with_end, moved_to, both_moved_to, in_mood, rewound, Event, logical_end, physical_end, page_end, line_end, character, value, next_word, signalled_by, Mending, Answer, is_false, jump, is_true, answer_of}
@@ -329,26 +330,36 @@ stop_number LineOver = 2
 stop_number EndReached = 3
 stop_number OutputFull = 4
 
--- an ending as the core's steps have it, each part told by its case
-abbrev pub EndingCase : Type 0
-EndingCase = code_ending.Ending Refusal Stop code.Event
-
--- what it means, with the record left at x
-abbrev pub ending_as : EndingCase → Position → Ending
+-- what an ending of the code means, with the record left at x
+abbrev pub ending_as : code_ending.Ending → Position → Ending
 ending_as (Refused r) x = refusal (refusal_number r)
 ending_as (RefusedAt event r) x = record { number = refusal_number r; stop = 0; told = told_by event x }
 ending_as (Stopped s) x = stopped (stop_number s)
 
--- what the code gives, or how it ended: as H has it, or as the core's steps do
+-- the same of a status: "number 0, done", and what it tells with the record left at x
+abbrev pub going : Status → Bool
+going e = choose (eqb e.number 0) (eqb e.stop 0) false
+
+abbrev pub told_or_none : Option code.Event → Position → Told
+told_or_none None x = none
+told_or_none (Some event) x = told_by event x
+
+abbrev pub status_as : Status → Position → Ending
+status_as e x = record { number = e.number; stop = e.stop; told = told_or_none e.event x }
+
+abbrev pub status_of : ℕ → ℕ → Option code.Event → Status
+status_of number stop event = record { number = number; stop = stop; event = event }
+
+-- what the code gives, or how the call ended: as H has it, or by its case
 abbrev pub OrEnded : Type 0 → Type 0 → Type 0
 OrEnded A H = Result A H
 
 abbrev pub OrEnding : Type 0 → Type 0
-OrEnding A = OrEnded A EndingCase
+OrEnding A = OrEnded A code_ending.Ending
 
--- a call that a step ended so
+-- a call that a step of the core ended
 abbrev pub EndedCall : Type 0
-EndedCall = code_ended.EndedCall EndingCase
+EndedCall = code_ended.EndedCall code_ending.Ending
 
 abbrev pub ended_by : EndedCall → Ending
 ended_by e = ending_as e.ending e.run.file.position
@@ -371,13 +382,12 @@ ended_with r e = record { run = r; ending = e }
 abbrev pub done_by : Run → Outcome
 done_by r = Ok r
 
--- the endings that a caller makes, told by cases or by whatever else it chooses, as numbers
-abbrev pub refused_by : {R S E : Type 0} → Run → R → code_ended.EndedCall (code_ending.Ending R S E)
+abbrev pub refused_by : Run → Refusal → EndedCall
 refused_by r n = ended_with r (Refused n)
 
 -- right after an event
-abbrev pub refused_at : {R S E : Type 0} → Run → E → R → code_ended.EndedCall (code_ending.Ending R S E)
+abbrev pub refused_at : Run → code.Event → Refusal → EndedCall
 refused_at r event n = ended_with r (RefusedAt event n)
 
-abbrev pub stopped_by : {R S E : Type 0} → Run → S → code_ended.EndedCall (code_ending.Ending R S E)
+abbrev pub stopped_by : Run → Stop → EndedCall
 stopped_by r s = ended_with r (Stopped s)

@@ -3,7 +3,7 @@
 #![tactic(auto)]
 
 ghost use Rattle.std.specs.Prelude.{◌≡◌};
-ghost use Rattle.rules.specs.Step.{refusal_number, stop_number};
+ghost use Rattle.rules.specs.Step.{refusal_number, stop_number, status_of};
 
 // A position: page, line and character, each counted from 1.
 #[repr(C)]
@@ -135,17 +135,37 @@ impl Stop {
     }
 }
 
-// How a step ends the call: by a refusal, by one that an event ends in, or by the stop of a string. The core tells each by its case; a
-// caller of its own may tell them by numbers, any of them, or otherwise.
+// How a step ends the call: by a refusal, by one that an event ends in, or by the stop of a string.
 #[derive(Clone, Copy)]
-pub enum Ending<R = Refusal, S = Stop, E = Event> {
-    Refused(R),
-    RefusedAt(E, R),
-    Stopped(S),
+pub enum Ending {
+    Refused(Refusal),
+    RefusedAt(Event, Refusal),
+    Stopped(Stop),
 }
 
-// A call that a step ended: the running call as it is left, and how, told by H. The event of a refusal was signalled at the position where
-// the record is left.
+// How a step left the call, in numbers, any of them: the number of a refusal, the stop of a string, 0 for neither, and the event that a
+// refusal ended in. The core tells an ending by its case; a caller with numbers of its own tells it so.
+#[derive(Clone, Copy)]
+pub struct Status {
+    pub number: u8,
+    pub stop: u8,
+    pub event: Option<Event>,
+}
+
+impl Status {
+    pub fn new(number: u8, stop: u8, event: Option<Event>) -> Status
+        ensures { result ≡ status_of number stop event }
+    {
+        Status {
+            number: number,
+            stop: stop,
+            event: event,
+        }
+    }
+}
+
+// A call that a step ended: the running call as it is left, and how, by case or in numbers. The event of a refusal was signalled at the
+// position where the record is left.
 #[derive(Clone, Copy)]
 pub struct EndedCall<H = Ending> {
     pub run: Run,
@@ -173,11 +193,11 @@ pub enum Given {
 // All that a call hands back by value: the record, the logical end, the events signalled, the answers taken, the count
 // of characters delivered, and what is given, or how the call ended.
 #[derive(Clone, Copy)]
-pub struct Reply<G = Result<Given, Ending>> {
+pub struct Reply<H = Ending> {
     pub file: File,
     pub end: Position,
     pub events: usize,
     pub taken: usize,
     pub count: usize,
-    pub given: G,
+    pub given: Result<Given, H>,
 }

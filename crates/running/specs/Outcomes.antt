@@ -1,7 +1,5 @@
--- Backspace and reset as the code has them: what each leaves of a running call; and which ending by numbers is none.
-use Rattle.std.specs.Prelude.{ℕ, Bool, ltb, eqb, Err}
-use Rattle.rules.specs.declared.Ending.{Ending}
-use Rattle.rules.specs.declared.Ending.TheVariants.{Refused, RefusedAt, Stopped}
+-- Backspace and reset as the code has them: what each leaves of a running call.
+use Rattle.std.specs.Prelude.{ltb, Err}
 use Rattle.rules.specs.declared.Run.{Run}
 use Rattle.rules.specs.declared.Refusal.TheVariants.{RightMissing, OutOfRange}
 use Rattle.rules.specs.Book.{choose, previous_character, moved_to, with_file, rewound}
@@ -12,9 +10,3 @@ backspaced_by r = choose (ltb 1 r.file.position.character) (done_by (moved_to r 
 
 abbrev pub reset_by : Run → Outcome
 reset_by r = choose r.file.rights.reset (done_by (with_file r (rewound r.file))) (Err (refused_by r RightMissing))
-
--- number 0 and stop 0: "done"
-abbrev pub number_is_0 : Ending ℕ ℕ ℕ → Bool
-number_is_0 (Refused n) = eqb n 0
-number_is_0 (RefusedAt event n) = eqb n 0
-number_is_0 (Stopped s) = eqb s 0

@@ -1,13 +1,16 @@
 // Changes of the running call, the endings of a step, and the words of an answer row. Nothing here signals an event.
 #![tactic(auto)]
 
-ghost use Rattle.std.specs.Prelude.{◌≡◌, ◌&&◌, ◌<◌, ◌^◌, Bool, false};
+ghost use Rattle.std.specs.Prelude.{◌≡◌, ◌&&◌, ◌<◌, ◌^◌, Bool, false, None};
+ghost use Rattle.rules.specs.declared.Ending.TheVariants.{Refused, RefusedAt, Stopped};
 ghost use Rattle.rules.specs.Book.{place, moved_to, both_moved_to, in_mood, next_word, signalled_by, kind_of, page_of, line_of, character_of, place_of, mending_of, answer_of, suggested};
-ghost use Rattle.rules.specs.Step.{event_as, mending_as, answer_as, refusal_number, refused_by, refused_at, stopped_by};
+ghost use Rattle.rules.specs.Step.{event_as, mending_as, answer_as, refusal_number, going, status_of, ended_with};
 ghost use Rattle.rules.specs.Steps.{file_end, file_end_number};
-ghost use Rattle.running.specs.Outcomes.{number_is_0, backspaced_by, reset_by};
+ghost use Rattle.running.specs.Outcomes.{backspaced_by, reset_by};
 
-use rules::{Answer, EndedCall, Ending, Event, Mending, Outcome, Position, Refusal, Run, Stop};
+use rules::{
+    Answer, EndedCall, Ending, Event, Mending, Outcome, Position, Refusal, Run, Status, Stop,
+};
 
 // The running call with its position moved.
 pub fn moved(run: Run, page: usize, line: usize, character: usize) -> Run
@@ -45,68 +48,114 @@ pub fn in_mood(run: Run, reading: bool) -> Run
     r
 }
 
-// What tells why a call ended: a case of the core's, or a number, any of them. With a refusal so told go a stop and an event told alike.
-pub trait Tells {
-    type Refusal;
-
-    type Stop;
-
+// A refusal as a caller tells it: by its case, or by a number, any of them; how the call is then ended, and what event goes with it.
+pub trait TellsRefusal {
     type Event;
+
+    type Ending;
+
+    ghost refused: { Self → Self.Ending };
+
+    ghost refused_at: { Self → Self.Event → Self.Ending };
+
+    fn refused(self) -> Self::Ending
+        ensures { result ≡ refused self };
+
+    fn refused_at(self, event: Self::Event) -> Self::Ending
+        ensures { result ≡ refused_at self event };
 }
 
-impl Tells for Refusal {
-    type Refusal = Refusal;
-
-    type Stop = Stop;
-
+impl TellsRefusal for Refusal {
     type Event = Event;
+
+    type Ending = Ending;
+
+    ghost refused = { Refused };
+
+    ghost refused_at = { λ refusal event. RefusedAt event refusal };
+
+    fn refused(self) -> Ending {
+        Ending::Refused(self)
+    }
+
+    fn refused_at(self, event: Event) -> Ending {
+        Ending::RefusedAt(event, self)
+    }
 }
 
-impl Tells for Stop {
-    type Refusal = Refusal;
+impl TellsRefusal for u8 {
+    type Event = Option<Event>;
 
-    type Stop = Stop;
+    type Ending = Status;
 
-    type Event = Event;
+    ghost refused = { λ number. status_of number 0 None };
+
+    ghost refused_at = { λ number event. status_of number 0 event };
+
+    fn refused(self) -> Status {
+        Status::new(self, 0, None)
+    }
+
+    fn refused_at(self, event: Option<Event>) -> Status {
+        Status::new(self, 0, event)
+    }
 }
 
-impl Tells for u8 {
-    type Refusal = u8;
+// The stop of a string, told alike.
+pub trait TellsStop {
+    type Ending;
 
-    type Stop = u8;
+    ghost stopped: { Self → Self.Ending };
 
-    type Event = u8;
+    fn stopped(self) -> Self::Ending
+        ensures { result ≡ stopped self };
+}
+
+impl TellsStop for Stop {
+    type Ending = Ending;
+
+    ghost stopped = { Stopped };
+
+    fn stopped(self) -> Ending {
+        Ending::Stopped(self)
+    }
+}
+
+impl TellsStop for u8 {
+    type Ending = Status;
+
+    ghost stopped = { λ stop. status_of 0 stop None };
+
+    fn stopped(self) -> Status {
+        Status::new(0, self, None)
+    }
 }
 
 // A call that is refused.
-pub fn refused<R: Tells>(run: Run, refusal: R) -> EndedCall<Ending<R, R::Stop, R::Event>>
-    ensures { result ≡ refused_by run refusal }
+pub fn refused<R: TellsRefusal>(run: Run, refusal: R) -> EndedCall<R::Ending>
+    ensures { result ≡ ended_with run (R.refused refusal) }
 {
-    let ending = Ending::Refused(refusal);
+    let ending = refusal.refused();
     EndedCall { run, ending }
 }
 
 // The same right after an event, which the refusal ends in.
-pub fn refused_at<R: Tells>(
-    run: Run,
-    event: R::Event,
-    refusal: R,
-) -> EndedCall<Ending<R, R::Stop, R::Event>>
-    ensures { result ≡ refused_at run event refusal }
+pub fn refused_at<R: TellsRefusal>(run: Run, event: R::Event, refusal: R) -> EndedCall<R::Ending>
+    ensures { result ≡ ended_with run (R.refused_at refusal event) }
 {
-    let ending = Ending::RefusedAt(event, refusal);
+    let ending = refusal.refused_at(event);
     EndedCall { run, ending }
 }
 
 // A string that is stopped.
-pub fn stopped<S: Tells>(run: Run, stop: S) -> EndedCall<Ending<S::Refusal, S, S::Event>>
-    ensures { result ≡ stopped_by run stop }
+pub fn stopped<S: TellsStop>(run: Run, stop: S) -> EndedCall<S::Ending>
+    ensures { result ≡ ended_with run (S.stopped stop) }
 {
-    let ending = Ending::Stopped(stop);
+    let ending = stop.stopped();
     EndedCall { run, ending }
 }
 
-// How a step left the call: a step that tells number 0 and stop 0 is done, and the call goes on.
+// How a step left the call: a status of number 0 and stop 0 says that it is done, and that the call goes on.
 pub trait Ends: Copy {
     ghost is_done: { Self → Bool };
 
@@ -123,15 +172,11 @@ impl Ends for Ending {
     }
 }
 
-impl Ends for Ending<u8, u8, u8> {
-    ghost is_done = { number_is_0 };
+impl Ends for Status {
+    ghost is_done = { going };
 
     fn is_done(self) -> bool {
-        match self {
-            Ending::Refused(number) => number == 0,
-            Ending::RefusedAt(_, number) => number == 0,
-            Ending::Stopped(stop) => stop == 0,
-        }
+        self.number == 0 && self.stop == 0
     }
 }
 
