@@ -336,10 +336,11 @@ ending_as (Refused r) x = refusal (refusal_number r)
 ending_as (RefusedAt event r) x = record { number = refusal_number r; stop = 0; told = told_by event x }
 ending_as (Stopped s) x = stopped (stop_number s)
 
--- the same of a status: "number 0, done", and what it tells with the record left at x
+-- a status of number 0, "done", and stop 0 says that the call goes on
 abbrev pub going : Status → Bool
 going e = choose (eqb e.number 0) (eqb e.stop 0) false
 
+-- what the event of a status tells, and what the status means, with the record left at x
 abbrev pub told_or_none : Option code.Event → Position → Told
 told_or_none None x = none
 told_or_none (Some event) x = told_by event x

@@ -163,7 +163,7 @@ pub trait Ends: Copy {
         ensures { result ≡ is_done self };
 }
 
-// No case has number 0.
+// No case has both number 0 and stop 0.
 impl Ends for Ending {
     ghost is_done = { λ _. false };
 
