@@ -184,11 +184,15 @@ module _ (f : File) (b : Book) (f' : File) (b' : Book) {r r' : Run} (e : r ≡ r
     tested : BothTested (state r b.lines b.pages) b.text (state r' b'.lines b'.pages) b'.text (both x y)
     tested = both_tested r b.text b.lines b.pages r' b'.text b'.lines b'.pages x y h h'
 
-    pub differ_call : {w : Result Books Refusal} → w ≡ both x y → (z : Result ℕ Refusal) (l list : List ℕ) → Lists w z l list → compared b b' (answer_of z l) ≡ differ f b f' b' list
+    pub list_call : {w : Result Books Refusal} → w ≡ both x y → (z : Result ℕ Refusal) (l list : List ℕ) → Lists w z l list → compared b b' (answer_of z l) ≡ differ f b f' b' list
     unfolding differ
-    differ_call i z l list k =
+    list_call i z l list k =
         let lists = subst (λ (w : Result Books Refusal). Lists w z l list) i k in
         ap (compared b b') (list_as (state r b.lines b.pages) b.text (state r' b'.lines b'.pages) b'.text (both x y) tested z l list lists ∙ entered (λ (p q : State). compare p b.text q b'.text list))
+
+    -- the same in the code's struct
+    pub differ_call : {d : Differences} (z : Result ℕ Refusal) (l list : List ℕ) → d ≡ differences_of z → Lists (both x y) z l list → compared b b' (answer d.number d.count l) ≡ differ f b f' b' list
+    differ_call z l list i k = ap (compared b b') (answer_as z l i) ∙ list_call refl z l list k
 
     pub count_call : {d : Differences} → d ≡ differences_of (counted (both x y)) → compared b b' (answer d.number d.count []) ≡ difference_count f b f' b'
     unfolding difference_count
